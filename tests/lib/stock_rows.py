@@ -255,7 +255,7 @@ ROWS = [
     ("currentsong", QUEUE[1]),
     ("playlistinfo 2:4", [*QUEUE[2], *QUEUE[3]]),
     ("config", '5 unknown command "config"'),
-    # What is asked in steps, of which a list has none.
+    # What is refused before it is begun.
     ("volume x", "2 bad argument 1"),
     ("volume 101", "2 bad argument 1"),
     ("volume -101", "2 bad argument 1"),
@@ -277,7 +277,7 @@ def refusal(request, text, index=0):
     return f"ACK [{code}@{index}] {{{request.split()[0].strip(chr(34)) if is_named else ''}}} {said}"
 
 
-# What is asked in steps, so that it can't stand in a list, but `volume`. Behind each the volume is 100 again.
+# What once took several requests. Behind each the volume is 100 again.
 STEPS = [
     ("volume -30", [], "volume: 70"),
     ("volume +7", [], "volume: 100"),
@@ -315,4 +315,3 @@ AlbumArtist: Two|songs: 1|playtime: 2"""),
     ('list Album "(foo == \'x\')" group Artist', '2 unknown tag "foo"'),
     ('list Album "(Artist == \'x\') AND (Genre == \'y\')" group Artist', "2 bad filter"),
 ]
-NOT_IN_LIST = "2 not possible in a command list"

@@ -21,3 +21,6 @@ mod WordsText
 mod SearchParts
 mod SearchCounts
 mod FilterFaults
+mod Ends
+mod NamedTags
+mod MaskLaws

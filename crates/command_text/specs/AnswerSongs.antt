@@ -11,6 +11,8 @@ use Rattle.song_files.specs.Tags.{TagText}
 use Rattle.command_text.specs.Answer.{line, pair, number_pair}
 use Rattle.command_text.specs.AnswerDates.{time_text}
 use Rattle.command_text.specs.AnswerTimes.{whole_seconds, exact_seconds}
+use Rattle.command_text.specs.Masks.{has}
+use Rattle.command_text.specs.declared.tag_mask.TagMask.{TagMask}
 
 abbrev pub file_line : List ℕ → List ℕ
 file_line uri = pair (codes "file") uri
@@ -31,15 +33,19 @@ format_text rate channels = decimal rate ++ (codes ":16:" ++ decimal channels)
 abbrev pub tag_line : TagText → List ℕ
 tag_line text = pair (name_of text.tag) text.text
 
--- a line for each text of each tag, in their order
-abbrev pub tag_lines : List TagText → List ℕ
-tag_lines texts = flat_map tag_line texts
+-- the same where the client sees the tag
+abbrev pub shown_line : TagMask → TagText → List ℕ
+shown_line mask text = if has mask text.tag then tag_line text else []
 
-abbrev pub song_lines : Row → List ℕ
-song_lines row = concat (
+-- a line for each text of each tag that the client sees, in their order
+abbrev pub tag_lines : TagMask → List TagText → List ℕ
+tag_lines mask texts = flat_map (shown_line mask) texts
+
+abbrev pub song_lines : TagMask → Row → List ℕ
+song_lines mask row = concat (
     head_lines row
     ∷ pair (codes "Format") (format_text row.rate row.channels)
-    ∷ tag_lines row.tags
+    ∷ tag_lines mask row.tags
     ∷ pair (codes "Time") (whole_seconds (milliseconds row))
     ∷ pair (codes "duration") (exact_seconds (milliseconds row))
     ∷ [])
@@ -49,9 +55,9 @@ abbrev pub priority_line : ℕ → List ℕ
 priority_line priority = if priority == 0 then [] else number_pair (codes "Prio") priority
 
 -- the entry at a position, and its song
-abbrev pub entry_lines : Row → ℕ → Entry → List ℕ
-entry_lines row position entry = concat (
-    song_lines row
+abbrev pub entry_lines : TagMask → Row → ℕ → Entry → List ℕ
+entry_lines mask row position entry = concat (
+    song_lines mask row
     ∷ number_pair (codes "Pos") position
     ∷ number_pair (codes "Id") entry.id
     ∷ priority_line entry.priority

@@ -1,5 +1,6 @@
 -- The commands that find songs by a filter. Its count of words comes first; then each part from left to right.
-use Rattle.std.specs.Prelude.{ℕ, ◌+◌, ◌-◌, ◌%◌, List, [], ◌∷◌, length, take, drop, Bool, true, false, not, ◌==◌, ◌&&◌, ◌||◌, nat_le, Option}
+use Rattle.std.specs.Prelude.{ℕ, ◌+◌, ◌-◌, ◌%◌, List, [], ◌∷◌, ◌++◌, length, take, drop, Bool, true, false, not, ◌==◌, ◌&&◌, ◌||◌, nat_le}
+use Rattle.std.specs.Prelude.{Option}
 use Rattle.std.specs.Prelude.{Some, None, Result, Ok, Err, codes, if◌then◌else◌}
 use Rattle.std.specs.Str.{bytes_eq, str_eq_ignore_ascii_case}
 use Rattle.profile.specs.declared.profile.Profile.{Profile}
@@ -7,6 +8,7 @@ use Rattle.profile.specs.declared.profile.Profile.TheVariants.{Named, Wide}
 use Rattle.filter_expr.specs.declared.case.Case.{Case}
 use Rattle.filter_expr.specs.declared.case.Case.TheVariants.{Exact, Folded}
 use Rattle.filter_expr.specs.declared.order.SortOrder.{SortOrder}
+use Rattle.filter_expr.specs.Names.{tag_named}
 use Rattle.filter_expr.specs.Parts.{opening, begins_so}
 use Rattle.filter_expr.specs.SortWord.{sort_order}
 use Rattle.filter_expr.specs.Tree.{Tree}
@@ -20,7 +22,10 @@ use Rattle.command_text.specs.declared.refusal.CommandRefusal.TheVariants.{Wrong
 use Rattle.command_text.specs.declared.topic.FindingName.{FindingName}
 use Rattle.command_text.specs.declared.topic.FindingName.TheVariants as names
 use Rattle.command_text.specs.Arguments.{target_of, window_of}
+use Rattle.song_files.specs.declared.tag.Tag.{Tag}
 use Rattle.command_text.specs.Counts.{◌>>=◌, Word, argument}
+use Rattle.command_text.specs.Groups.{end_tag, last_word, most_ends, part_ends, takes_groups, without_end}
+use Rattle.command_text.specs.Masks.{empty_mask, only_tag}
 use Rattle.command_text.specs.NameArguments.{told, playlist_name, filter_argument, tag_argument}
 
 -- a filter is one word that is an expression, or pairs of a tag and a value
@@ -145,13 +150,45 @@ values_of profile name (word ∷ words) =
     if not (has_filter_count (word ∷ words)) then Err WrongCount
     else (tag_argument profile name >>= λ tag. filter_argument profile (word ∷ words) >>= λ filter. Ok (commands.ListTag tag (Some filter)))
 
+-- a filter and nothing behind it, if there is a word
+abbrev pub filter_if_any : Profile → List Word → Result (Option Tree) CommandRefusal
+filter_if_any profile [] = Ok None
+filter_if_any profile (word ∷ words) = filter_alone profile (word ∷ words) >>= λ filter. Ok (Some filter)
+
+-- the tag of a `list` that ends in `group TAG`
+abbrev pub grouped_tag : Profile → Word → List Word → Option Tag
+grouped_tag profile name words = if takes_groups profile words then tag_named profile name else None
+
+-- the values of a tag within those of others, of all songs or of those of a filter
+abbrev pub groups_of : Profile → Tag → List Word → Result FindingCommand CommandRefusal
+groups_of profile tag words = do
+  parts ← part_ends most_ends (only_tag tag) words
+  filter ← filter_if_any profile parts.words
+  Ok (commands.ListGroups (parts.tags ++ tag ∷ []) filter)
+
+abbrev pub listing_of : Profile → Word → List Word → Option Tag → Result FindingCommand CommandRefusal
+listing_of profile name words None = values_of profile name (listed_words profile name words)
+listing_of profile name words (Some tag) = groups_of profile tag words
+
 unfoldable pub list_of : Profile → List Word → Result FindingCommand CommandRefusal
 list_of profile [] = Err WrongCount
 list_of profile (name ∷ words) =
-    if is_file profile name then files_of profile words else values_of profile name (listed_words profile name words)
+    if is_file profile name then files_of profile words else listing_of profile name words (grouped_tag profile name words)
+
+-- the songs of each value of a tag, of all songs or of those of a filter
+unfoldable pub group_counts_of : Profile → List Word → Result FindingCommand CommandRefusal
+group_counts_of profile words = do
+  tag ← end_tag empty_mask (tag_named Wide (last_word words))
+  filter ← filter_if_any profile (without_end words)
+  Ok (commands.CountGroups tag filter)
+
+abbrev pub count_of : Profile → List Word → Result FindingCommand CommandRefusal
+count_of profile words =
+    if takes_groups profile words then group_counts_of profile words
+    else (filter_alone profile words >>= λ filter. Ok (commands.Count filter))
 
 unfoldable pub finding_of : Profile → FindingName → List Word → Result FindingCommand CommandRefusal
-finding_of profile names.Count words = filter_alone profile words >>= λ filter. Ok (commands.Count filter)
+finding_of profile names.Count words = count_of profile words
 finding_of profile names.Find words = find_of profile Exact words
 finding_of profile names.FindAdd words = find_add_of profile Exact words
 finding_of profile names.ListTag words = list_of profile words

@@ -5,6 +5,8 @@ pub mod Counts
 pub mod NameArguments
 pub mod Stops
 pub mod Settings
+pub mod Masks
+pub mod Groups
 pub mod Database
 pub mod Queue
 pub mod BadFilters

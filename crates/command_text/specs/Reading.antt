@@ -38,7 +38,7 @@ use Rattle.command_text.specs.Setup.{setup_of}
 -- the command of a topic with these arguments: their count, and then each from left to right
 unfoldable pub command_with : Profile → Topic → List Word → Result Command CommandRefusal
 command_with profile (topics.Settings name) words = settings_of name words >>= λ x. Ok (commands.Settings x)
-command_with profile (topics.Database name) words = database_of name words >>= λ x. Ok (commands.Database x)
+command_with profile (topics.Database name) words = database_of profile name words >>= λ x. Ok (commands.Database x)
 command_with profile (topics.Queue name) words = queue_of name words >>= λ x. Ok (commands.Queue x)
 command_with profile (topics.Finding name) words = finding_of profile name words >>= λ x. Ok (commands.Finding x)
 command_with profile (topics.Lists name) words = lists_of name words >>= λ x. Ok (commands.Lists x)

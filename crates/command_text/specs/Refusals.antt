@@ -13,6 +13,8 @@ use Rattle.command_text.specs.declared.refusal.ReadError.{ReadError}
 use Rattle.command_text.specs.declared.refusal.ReadError.TheVariants as errors
 use Rattle.command_text.specs.declared.refusal.SetupRefusal.{SetupRefusal}
 use Rattle.command_text.specs.declared.refusal.SetupRefusal.TheVariants as setup
+use Rattle.command_text.specs.declared.refusal.TagsRefusal.{TagsRefusal}
+use Rattle.command_text.specs.declared.refusal.TagsRefusal.TheVariants as tags
 use Rattle.command_text.specs.Names.{name_text}
 
 -- the number that an `ACK` line prints for a code
@@ -69,6 +71,14 @@ setup_text_of setup.NobodySubscribed = codes "nobody is subscribed to this chann
 setup_text_of setup.UnrecognizedGain = codes "Unrecognized replay gain mode"
 setup_text_of setup.UnsupportedAttribute = codes "Unsupported attribute"
 
+-- what is told of tags that a client named
+abbrev pub tags_text_of : TagsRefusal → List ℕ
+tags_text_of tags.ConflictingGroup = codes "Conflicting group"
+tags_text_of tags.MissingArguments = codes "Not enough arguments"
+tags_text_of tags.TooManyArguments = codes "Too many arguments"
+tags_text_of tags.UnknownSubCommand = codes "Unknown sub command"
+tags_text_of tags.UnknownTagType = codes "Unknown tag type"
+
 abbrev pub row_of : CommandRefusal → CommandRow
 row_of command.NotAllowedInList = row Argument None (codes "not allowed in a command list")
 row_of command.NotInList = row NotList None (codes "not in a command list")
@@ -99,6 +109,7 @@ row_of command.StickersFull = row System (Some 32) (codes "Too many stickers")
 row_of command.RequestTooLarge = row System None (codes "request too large")
 row_of command.OutOfMemory = row System (Some 7) (codes "out of memory")
 row_of (command.Setup refusal) = row (setup_code_of refusal) None (setup_text_of refusal)
+row_of (command.Tags refusal) = row Argument None (tags_text_of refusal)
 
 abbrev pub command_code_of : CommandRefusal → AckCode
 command_code_of refusal = (row_of refusal).code

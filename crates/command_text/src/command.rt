@@ -19,6 +19,7 @@ use std::alloc::Global;
 
 pub mod database;
 pub mod finding;
+mod groups;
 pub mod lists;
 pub mod playing;
 pub mod queue;
@@ -168,7 +169,9 @@ fn with<'w>(
 {
     match topic {
         Topic::Settings(name) => Ok(Command::Settings(settings::read(name, words)?)),
-        Topic::Database(name) => Ok(Command::Database(database::read(alloc, name, words)?)),
+        Topic::Database(name) => {
+            Ok(Command::Database(database::read(alloc, profile, name, words)?))
+        },
         Topic::Queue(name) => Ok(Command::Queue(queue::read(alloc, name, words)?)),
         Topic::Finding(name) => Ok(Command::Finding(finding::read(alloc, profile, name, words)?)),
         Topic::Lists(name) => Ok(Command::Lists(lists::read(name, words)?)),

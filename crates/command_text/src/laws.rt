@@ -1,8 +1,8 @@
 //! Laws of the definitions that the contracts cite.
 
-ghost use Rattle.std.specs.Prelude.{◌≡◌, ◌<◌, ◌≤◌, ◌^◌, ◌↔◌, ℕ, Bool, true, false, List, length, map, Contains, IsSorted};
-ghost use Rattle.std.specs.Prelude.{Option, Some, Result, Ok, Err};
-ghost use Rattle.std.specs.List.{list_all};
+ghost use Rattle.std.specs.Prelude.{◌≡◌, ◌≢◌, ◌<◌, ◌≤◌, ◌^◌, ◌↔◌, ◌&&◌, ◌||◌, not, ℕ, Bool, true, false, List, length, map, Contains};
+ghost use Rattle.std.specs.Prelude.{IsSorted, Option, Some, Result, Ok, Err};
+ghost use Rattle.std.specs.List.{flat_map, list_all};
 ghost use Rattle.std.specs.Str.{is_utf8};
 ghost use Rattle.std.specs.Cmp.Lexicographic.{slice_cmp};
 ghost use Rattle.std.specs.Ordering.{nat_cmp};
@@ -25,6 +25,11 @@ ghost use Rattle.command_text.specs.Names.{name_text, all_names, is_known, named
 ghost use Rattle.command_text.specs.Refusals.{name_of_refusal};
 ghost use Rattle.command_text.specs.Reading.{line_reading, name_of_line, want_of_memory};
 ghost use Rattle.command_text.specs.Answer.{ack};
+ghost use Rattle.command_text.specs.AnswerSongs.{tag_line, tag_lines};
+ghost use Rattle.command_text.specs.Masks.{all_in_mask, empty_mask, has, only_tag, with_tags, without_tags};
+ghost use Rattle.command_text.specs.declared.tag_mask.TagMask.{TagMask};
+ghost use Rattle.song_files.specs.Tags.{TagText};
+ghost use Rattle.song_files.specs.declared.tag.Tag.{Tag};
 ghost use Rattle.command_text.specs.declared.answer.TheConstants.{WANT_OF_MEMORY_LENGTH};
 
 /// A line has the words that the grammar gives it, and so at most one list of them.
@@ -79,4 +84,16 @@ pub fn a_line_has_one_name()
 pub fn want_of_memory_fits()
     ensures { (index : ℕ) (name : Option CommandName) → index < 2 ^ 32 →
         length (ack index (want_of_memory name)) ≤ WANT_OF_MEMORY_LENGTH }
+{}
+
+/// A mask is a set of tags; where it has all of them, as at first, each text of a song has its line.
+pub fn masks_are_sets()
+    ensures empty { (tag : Tag) → has empty_mask tag ≡ false }
+    ensures all { (tag : Tag) → has all_in_mask tag ≡ true }
+    ensures only { (tag : Tag) → has (only_tag tag) tag ≡ true }
+    ensures others { (tag other : Tag) → tag ≢ other → has (only_tag tag) other ≡ false }
+    ensures with { (mask others : TagMask) (tag : Tag) → has (with_tags mask others) tag ≡ (has mask tag || has others tag) }
+    ensures without { (mask others : TagMask) (tag : Tag) → others.bits < 2 ^ 32
+        → has (without_tags mask others) tag ≡ (has mask tag && not (has others tag)) }
+    ensures told { (texts : List TagText) → tag_lines all_in_mask texts ≡ flat_map tag_line texts }
 {}

@@ -1,7 +1,7 @@
 // Why a line isn't a command, or a command isn't performed, with the protocol's codes.
 ghost use Rattle.std.specs.Prelude.{◌≡◌};
 ghost use Rattle.command_text.specs.Refusals.{code_number, code_of, command_code_of, command_number_of, name_of_refusal, number_of_error};
-ghost use Rattle.command_text.specs.Refusals.{number_of_refusal, setup_code_of, setup_text_of};
+ghost use Rattle.command_text.specs.Refusals.{number_of_refusal, setup_code_of, setup_text_of, tags_text_of};
 
 use crate::name::CommandName;
 use crate::words::Word;
@@ -87,6 +87,32 @@ impl SetupRefusal {
     }
 }
 
+/// Why tags that a client named were refused; the code is always `Argument`.
+#[derive(Clone, Copy, Debug, PartialEq, Eq)]
+pub enum TagsRefusal {
+    /// A tag stands twice, as one whose values are listed or within which they are.
+    ConflictingGroup,
+    MissingArguments,
+    TooManyArguments,
+    UnknownSubCommand,
+    UnknownTagType,
+}
+
+impl TagsRefusal {
+    /// What an `ACK` line says of it.
+    pub(crate) fn text(self) -> &'static str
+        ensures { result.now ≡ tags_text_of self }
+    {
+        match self {
+            TagsRefusal::ConflictingGroup => "Conflicting group",
+            TagsRefusal::MissingArguments => "Not enough arguments",
+            TagsRefusal::TooManyArguments => "Too many arguments",
+            TagsRefusal::UnknownSubCommand => "Unknown sub command",
+            TagsRefusal::UnknownTagType => "Unknown tag type",
+        }
+    }
+}
+
 /// Why a known command was refused; each has a code and a text.
 #[derive(Debug, Drop)]
 pub enum CommandRefusal {
@@ -138,6 +164,8 @@ pub enum CommandRefusal {
     OutOfMemory,
     /// The daemon isn't set up so.
     Setup(SetupRefusal),
+    /// Tags aren't named so.
+    Tags(TagsRefusal),
 }
 
 impl CommandRefusal {
@@ -154,7 +182,8 @@ impl CommandRefusal {
             | CommandRefusal::FilterTooDeep
             | CommandRefusal::BadIndex
             | CommandRefusal::BadPlaylistName
-            | CommandRefusal::BadStickerName => AckCode::Argument,
+            | CommandRefusal::BadStickerName
+            | CommandRefusal::Tags(_) => AckCode::Argument,
             CommandRefusal::NoSuchUri
             | CommandRefusal::NoSuchSong
             | CommandRefusal::NoSuchPlaylist
@@ -172,7 +201,7 @@ impl CommandRefusal {
     }
 
     /// The number of the refusal. None for the two of command lists, for a relative place without a current song, for a job
-    /// that runs already, for a request that is too large, and for what the daemon isn't set up with.
+    /// that runs already, for a request that is too large, for what the daemon isn't set up with, and for tags that aren't named so.
     pub fn number(&self) -> Option<u8>
         ensures { result ≡ command_number_of self.now }
     {
@@ -182,7 +211,8 @@ impl CommandRefusal {
             | CommandRefusal::NoCurrentSong
             | CommandRefusal::AlreadyUpdating
             | CommandRefusal::RequestTooLarge
-            | CommandRefusal::Setup(_) => None,
+            | CommandRefusal::Setup(_)
+            | CommandRefusal::Tags(_) => None,
             CommandRefusal::OutOfMemory => Some(7),
             CommandRefusal::NoSuchUri => Some(17),
             CommandRefusal::BadFilter => Some(19),

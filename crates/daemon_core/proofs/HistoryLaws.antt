@@ -21,6 +21,7 @@ use Rattle.daemon_core.specs.Pending.{Moment, connects, is_pending, pending_of}
 use Rattle.daemon_core.specs.Replay.{Entry, stepped, replay, moments, moment_of, report_if, reported_by, told_waiting, reply}
 use Rattle.daemon_core.specs.Run.{Ran, ran, unspent}
 use Rattle.daemon_core.specs.Session.{Acted, of_ran, runs, output, happened}
+use Rattle.daemon_core.specs.Seen.{tags_seen}
 use Rattle.daemon_core.specs.State.{State}
 use Rattle.machine_core.specs.Happening.{Happening}
 use Rattle.machine_core.specs.Reports.{when_fed, when_ended, when_broken}
@@ -177,11 +178,11 @@ keeps_runs earlier c s r rises agree = keeps_ran earlier c s r r.ending rises ag
 keeps_asked : (earlier : List Moment) (c : ℕ) (refused : Option ℕ) (s : State) (request : Request) → Rises s.clients →
     Agree earlier s.clients → Keeps earlier (asked c refused s request)
 keeps_asked earlier c refused s (Single line) rises agree =
-    keeps_runs earlier c s (ran Alone [] refused 0 (unspent s.machine) (line ∷ []) s.machine) rises agree
+    keeps_runs earlier c s (ran Alone [] refused 0 (unspent s.machine (tags_seen s.masks c)) (line ∷ []) s.machine) rises agree
 keeps_asked earlier c refused s (CommandList lines) rises agree =
-    keeps_runs earlier c s (ran InList [] refused 0 (unspent s.machine) lines s.machine) rises agree
+    keeps_runs earlier c s (ran InList [] refused 0 (unspent s.machine (tags_seen s.masks c)) lines s.machine) rises agree
 keeps_asked earlier c refused s (OkList lines) rises agree =
-    keeps_runs earlier c s (ran InList list_ok refused 0 (unspent s.machine) lines s.machine) rises agree
+    keeps_runs earlier c s (ran InList list_ok refused 0 (unspent s.machine (tags_seen s.masks c)) lines s.machine) rises agree
 keeps_asked earlier c refused s Noidle rises agree = record { rises = rises; agree = agree; quiet = λ _ _. refl }
 
 keeps_waiting : (earlier : List Moment) (c : ℕ) (s : State) (request : Request) → Rises s.clients → Agree earlier s.clients →

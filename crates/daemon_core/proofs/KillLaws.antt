@@ -29,6 +29,7 @@ use Rattle.daemon_core.specs.Run.{Did, Goes, Refuses, Ends, settings_ending, ses
 use Rattle.daemon_core.specs.Run.{read_and_performed, attempted, Ran, wants_memory, follow, is_refused_at, ran}
 use Rattle.daemon_core.specs.Run.{Spent, spent_behind, unspent, within_both}
 use Rattle.daemon_core.specs.Session.{Acted, of_ran, runs}
+use Rattle.daemon_core.specs.Seen.{tags_seen}
 use Rattle.daemon_core.specs.State.{State}
 use Rattle.daemon_core.specs.Step.{connects_client, asked, waits_no_more, is_noidle, requested_by, waiting_of, acted, step}
 use Rattle.daemon_core.specs.declared.event.Event.{Event}
@@ -100,10 +101,10 @@ follow_kills separator index behind m rest kill later (Refuses refusal) h same =
 follow_kills separator index behind m rest kill later (Ends ending) h same =
     sym (ap (λ b. b || false) h ∙ or-false (is_killed ending))
 
-unless_refused : (m : MachineState) (index : ℕ) (line : List ℕ) (r : Ran) (kill here : Bool) → is_killed r.ending ≡ kill →
-    let s = cond here (wants_memory m index line) r in is_killed s.ending ≡ (not here && kill)
-unless_refused m index line r kill true h = refl
-unless_refused m index line r kill false h = h
+unless_refused : (spent : Spent) (m : MachineState) (index : ℕ) (line : List ℕ) (r : Ran) (kill here : Bool) → is_killed r.ending ≡ kill →
+    let s = cond here (wants_memory m spent index line) r in is_killed s.ending ≡ (not here && kill)
+unless_refused spent m index line r kill true h = refl
+unless_refused spent m index line r kill false h = h
 
 ran_kills : (place : Place) (separator : List ℕ) (refused : Option ℕ) (index : ℕ) (spent : Spent) (lines : List (List ℕ))
     (m : MachineState) →
@@ -111,7 +112,7 @@ ran_kills : (place : Place) (separator : List ℕ) (refused : Option ℕ) (index
 unfolding ran comes_to_kill
 ran_kills place separator refused index spent [] m = refl
 ran_kills place separator refused index spent (line ∷ lines) m =
-    unless_refused m index line _ _ (is_refused_at refused index)
+    unless_refused spent m index line _ _ (is_refused_at refused index)
     (follow_kills separator index (spent_behind place line m spent) m (λ n t. ran place separator refused (suc index) n lines t)
     (reads_kill (line_reading m.saved.profile place line))
     (λ x. comes_to_kill place refused (suc index) (spent_behind place line m spent x.ops) lines x.after)
@@ -126,16 +127,16 @@ of_ran_ends c s r Killed = refl
 of_ran_ends c s r (Waits mask) = refl
 
 asked_ends : (c : ℕ) (refused : Option ℕ) (s : State) (request : Request) →
-    let a = asked c refused s request in a.ended ≡ request_kills refused s.machine request
+    let a = asked c refused s request in a.ended ≡ request_kills refused (unspent s.machine (tags_seen s.masks c)) s.machine request
 asked_ends c refused s (Single line) =
-    let r : Ran = ran Alone [] refused 0 (unspent s.machine) (line ∷ []) s.machine in
-    of_ran_ends c s r r.ending ∙ ran_kills Alone [] refused 0 (unspent s.machine) (line ∷ []) s.machine
+    let r : Ran = ran Alone [] refused 0 (unspent s.machine (tags_seen s.masks c)) (line ∷ []) s.machine in
+    of_ran_ends c s r r.ending ∙ ran_kills Alone [] refused 0 (unspent s.machine (tags_seen s.masks c)) (line ∷ []) s.machine
 asked_ends c refused s (CommandList lines) =
-    let r : Ran = ran InList [] refused 0 (unspent s.machine) lines s.machine in
-    of_ran_ends c s r r.ending ∙ ran_kills InList [] refused 0 (unspent s.machine) lines s.machine
+    let r : Ran = ran InList [] refused 0 (unspent s.machine (tags_seen s.masks c)) lines s.machine in
+    of_ran_ends c s r r.ending ∙ ran_kills InList [] refused 0 (unspent s.machine (tags_seen s.masks c)) lines s.machine
 asked_ends c refused s (OkList lines) =
-    let r : Ran = ran InList list_ok refused 0 (unspent s.machine) lines s.machine in
-    of_ran_ends c s r r.ending ∙ ran_kills InList list_ok refused 0 (unspent s.machine) lines s.machine
+    let r : Ran = ran InList list_ok refused 0 (unspent s.machine (tags_seen s.masks c)) lines s.machine in
+    of_ran_ends c s r r.ending ∙ ran_kills InList list_ok refused 0 (unspent s.machine (tags_seen s.masks c)) lines s.machine
 asked_ends c refused s Noidle = refl
 
 waiting_ends : (noidle : Bool) (c : ℕ) (s : State) → let a = waits_no_more noidle c s in a.ended ≡ false
@@ -143,7 +144,7 @@ waiting_ends true c s = refl
 waiting_ends false c s = refl
 
 requested_ends : (c : ℕ) (refused : Option ℕ) (s : State) (request : Request) (found : Option (Option Subsystems)) →
-    let a = requested_by c refused s request found in a.ended ≡ asks_to_kill refused s request found
+    let a = requested_by c refused s request found in a.ended ≡ asks_to_kill c refused s request found
 requested_ends c refused s request None = refl
 requested_ends c refused s request (Some None) = asked_ends c refused s request
 requested_ends c refused s request (Some (Some mask)) = waiting_ends (is_noidle request) c s
@@ -180,9 +181,12 @@ runs_empty : (c : ℕ) (s : State) (r : Ran) → Empties (runs c s r)
 runs_empty c s r = ran_empties c s r r.ending
 
 asked_empties : (c : ℕ) (refused : Option ℕ) (s : State) (request : Request) → Empties (asked c refused s request)
-asked_empties c refused s (Single line) = runs_empty c s (ran Alone [] refused 0 (unspent s.machine) (line ∷ []) s.machine)
-asked_empties c refused s (CommandList lines) = runs_empty c s (ran InList [] refused 0 (unspent s.machine) lines s.machine)
-asked_empties c refused s (OkList lines) = runs_empty c s (ran InList list_ok refused 0 (unspent s.machine) lines s.machine)
+asked_empties c refused s (Single line) = runs_empty c s (ran Alone [] refused 0 (unspent s.machine (tags_seen s.masks c))
+    (line ∷ []) s.machine)
+asked_empties c refused s (CommandList lines) = runs_empty c s (ran InList [] refused 0 (unspent s.machine
+    (tags_seen s.masks c)) lines s.machine)
+asked_empties c refused s (OkList lines) = runs_empty c s (ran InList list_ok refused 0 (unspent s.machine
+    (tags_seen s.masks c)) lines s.machine)
 asked_empties c refused s Noidle = λ h. absurd (false≢true h)
 
 goes_on_empties : (a : Acted) → a.ended ≡ false → Empties a

@@ -1,6 +1,7 @@
 -- What holds of a machine that has just begun, and what each command and each event keeps, holds after any history.
 use Rattle.std.proofs.Common.{◌≡◌, ℕ, suc, ◌+◌, Bool, true, false, List, [], ◌∷◌, length, Option, Some, None, cond, Result, Ok, Err, refl}
 use Rattle.std.specs.Prelude.{nat_le}
+use Rattle.command_text.specs.declared.tag_mask.TagMask.{TagMask}
 use Rattle.command_text.specs.Answer.{list_ok}
 use Rattle.command_text.specs.Reading.{line_reading}
 use Rattle.command_text.specs.declared.command.Command.{Command}
@@ -32,6 +33,7 @@ use Rattle.daemon_core.specs.Run.{Did, Goes, Refuses, Ends, ending_of, did_of, u
 use Rattle.daemon_core.specs.Run.{Ran, wants_memory, follow, is_refused_at, ran}
 use Rattle.daemon_core.specs.Run.{Spent, spent_behind, unspent, within_both}
 use Rattle.daemon_core.specs.Session.{Acted, of_ran, runs}
+use Rattle.daemon_core.specs.Seen.{tags_seen}
 use Rattle.daemon_core.specs.State.{State}
 use Rattle.daemon_core.specs.Step.{connects_client, asked, waits_no_more, is_noidle, requested_by, waiting_of, acted, step}
 use Rattle.daemon_core.specs.declared.event.Event.{Event}
@@ -41,7 +43,7 @@ use Rattle.daemon_core.specs.declared.outcome.Ending.TheVariants.{Answered, Clos
 
 -- what each command, each report of the output and each event of a scan keeps
 pub record IsKept (P : MachineState → Type 0) : Type 0 where
-  pub command : (command : Command) (m : MachineState) (x : Meaning) → P m → meaning command m ≡ Ok x → P x.after
+  pub command : (mask : TagMask) (command : Command) (m : MachineState) (x : Meaning) → P m → meaning mask command m ≡ Ok x → P x.after
   pub fed : (ticket frames : ℕ) (m : MachineState) → P m → P (when_fed ticket frames m).after
   pub ended : (ticket : ℕ) (m : MachineState) → P m → P (when_ended ticket m).after
   pub broken : (ticket : ℕ) (cause : BrokenCause) (m : MachineState) → P m → P (when_broken ticket cause m).after
@@ -53,11 +55,11 @@ module _ (P : MachineState → Type 0) (kept : IsKept P) where
   Keeps m (Ok x) = P m → P x.after
   Keeps m (Err refusal) = Unit {0}
 
-  command_lasts : (command : Command) (m : MachineState) → Keeps m (meaning command m)
-  command_lasts command m = of (meaning command m) refl
+  command_lasts : (mask : TagMask) (command : Command) (m : MachineState) → Keeps m (meaning mask command m)
+  command_lasts mask command m = of (meaning mask command m) refl
     where
-      of : (meant : Meant) → meaning command m ≡ meant → Keeps m meant
-      of (Ok x) means = λ h. kept.command command m x h means
+      of : (meant : Meant) → meaning mask command m ≡ meant → Keeps m meant
+      of (Ok x) means = λ h. kept.command mask command m x h means
       of (Err refusal) means = tt
 
   -- a line of a request
@@ -71,8 +73,9 @@ module _ (P : MachineState → Type 0) (kept : IsKept P) where
 
   both_last : (spent : Spent) (command : Command) (m : MachineState) → Keeps m (within_both spent command m)
   both_last spent command m =
-      within_lasts spent.size m (weighed spent.looks (looks_of command m) (meaning command m))
-      (fits_lasts m (meaning command m) (nat_le (spent.looks + looks_of command m) max_looks) (command_lasts command m))
+      within_lasts spent.size m (weighed spent.looks (looks_of command m) (meaning spent.tags command m))
+      (fits_lasts m (meaning spent.tags command m) (nat_le (spent.looks + looks_of command m) max_looks)
+      (command_lasts spent.tags command m))
 
   abbrev DidKeeps : MachineState → Did → Type 0
   DidKeeps m (Goes x) = P m → P x.after
@@ -111,10 +114,10 @@ module _ (P : MachineState → Type 0) (kept : IsKept P) where
   follow_lasts separator index behind m rest (Refuses refusal) keeps later = λ h. h
   follow_lasts separator index behind m rest (Ends ending) keeps later = λ h. h
 
-  unless_refused_lasts : (m : MachineState) (index : ℕ) (line : List ℕ) (r : Ran) (here : Bool) → RanKeeps m r →
-      RanKeeps m (cond here (wants_memory m index line) r)
-  unless_refused_lasts m index line r true keeps = λ h. h
-  unless_refused_lasts m index line r false keeps = keeps
+  unless_refused_lasts : (spent : Spent) (m : MachineState) (index : ℕ) (line : List ℕ) (r : Ran) (here : Bool) → RanKeeps m r →
+      RanKeeps m (cond here (wants_memory m spent index line) r)
+  unless_refused_lasts spent m index line r true keeps = λ h. h
+  unless_refused_lasts spent m index line r false keeps = keeps
 
   ran_lasts : (place : Place) (separator : List ℕ) (refused : Option ℕ) (index : ℕ) (spent : Spent) (lines : List (List ℕ))
       (m : MachineState) →
@@ -122,7 +125,7 @@ module _ (P : MachineState → Type 0) (kept : IsKept P) where
   unfolding ran
   ran_lasts place separator refused index spent [] m = λ h. h
   ran_lasts place separator refused index spent (line ∷ lines) m =
-      unless_refused_lasts m index line _ (is_refused_at refused index)
+      unless_refused_lasts spent m index line _ (is_refused_at refused index)
       (follow_lasts separator index (spent_behind place line m spent) m (λ n t. ran place separator refused (suc index) n lines t)
       (attempted place spent line m) (line_lasts place spent line m)
       (λ n t. ran_lasts place separator refused (suc index) n lines t))
@@ -142,11 +145,14 @@ module _ (P : MachineState → Type 0) (kept : IsKept P) where
 
   asked_lasts : (c : ℕ) (refused : Option ℕ) (s : State) (request : Request) → ActKeeps s (asked c refused s request)
   asked_lasts c refused s (Single line) =
-      runs_lasts c s (ran Alone [] refused 0 (unspent s.machine) (line ∷ []) s.machine) (ran_lasts Alone [] refused 0 (unspent s.machine) (line ∷ []) s.machine)
+      runs_lasts c s (ran Alone [] refused 0 (unspent s.machine (tags_seen s.masks c)) (line ∷ []) s.machine)
+      (ran_lasts Alone [] refused 0 (unspent s.machine (tags_seen s.masks c)) (line ∷ []) s.machine)
   asked_lasts c refused s (CommandList lines) =
-      runs_lasts c s (ran InList [] refused 0 (unspent s.machine) lines s.machine) (ran_lasts InList [] refused 0 (unspent s.machine) lines s.machine)
+      runs_lasts c s (ran InList [] refused 0 (unspent s.machine (tags_seen s.masks c)) lines s.machine) (ran_lasts InList [] refused 0
+      (unspent s.machine (tags_seen s.masks c)) lines s.machine)
   asked_lasts c refused s (OkList lines) =
-      runs_lasts c s (ran InList list_ok refused 0 (unspent s.machine) lines s.machine) (ran_lasts InList list_ok refused 0 (unspent s.machine) lines s.machine)
+      runs_lasts c s (ran InList list_ok refused 0 (unspent s.machine (tags_seen s.masks c)) lines s.machine)
+      (ran_lasts InList list_ok refused 0 (unspent s.machine (tags_seen s.masks c)) lines s.machine)
   asked_lasts c refused s Noidle = λ h. h
 
   waiting_lasts : (noidle : Bool) (c : ℕ) (s : State) → ActKeeps s (waits_no_more noidle c s)

@@ -24,6 +24,7 @@ use Rattle.daemon_core.specs.Leaving.{is_one_of, missing, still_there, with_newc
 use Rattle.daemon_core.specs.Replay.{Entry, stepped, replay}
 use Rattle.daemon_core.specs.Run.{Ran, ran, unspent}
 use Rattle.daemon_core.specs.Session.{Acted, happened, numbers_of, of_ran, runs}
+use Rattle.daemon_core.specs.Seen.{tags_seen}
 use Rattle.daemon_core.specs.State.{State}
 use Rattle.daemon_core.specs.Step.{connects_client, asked, waits_no_more, is_noidle, requested_by, waiting_of, acted, step}
 use Rattle.daemon_core.specs.declared.event.Event.{Event}
@@ -224,11 +225,14 @@ ran_leaves c s r (Waits mask) rises known =
 asked_leaves : (c : ℕ) (refused : Option ℕ) (s : State) (request : Request) → Rises s.clients → is_some (watched s.clients c) ≡ true →
     Leaves s.clients s.clients (asked c refused s request)
 asked_leaves c refused s (Single line) rises known =
-    let r : Ran = ran Alone [] refused 0 (unspent s.machine) (line ∷ []) s.machine in ran_leaves c s r r.ending rises known
+    let r : Ran = ran Alone [] refused 0 (unspent s.machine (tags_seen s.masks c)) (line ∷ []) s.machine in
+    ran_leaves c s r r.ending rises known
 asked_leaves c refused s (CommandList lines) rises known =
-    let r : Ran = ran InList [] refused 0 (unspent s.machine) lines s.machine in ran_leaves c s r r.ending rises known
+    let r : Ran = ran InList [] refused 0 (unspent s.machine (tags_seen s.masks c)) lines s.machine in
+    ran_leaves c s r r.ending rises known
 asked_leaves c refused s (OkList lines) rises known =
-    let r : Ran = ran InList list_ok refused 0 (unspent s.machine) lines s.machine in ran_leaves c s r r.ending rises known
+    let r : Ran = ran InList list_ok refused 0 (unspent s.machine (tags_seen s.masks c)) lines s.machine in
+    ran_leaves c s r r.ending rises known
 asked_leaves c refused s Noidle rises known = all_stay s.clients (asked c refused s Noidle) refl refl
 
 waiting_leaves : (noidle : Bool) (c : ℕ) (s : State) → Rises s.clients → is_some (watched s.clients c) ≡ true →
@@ -305,9 +309,9 @@ runs_close : (c : ℕ) (s : State) (r : Ran) → ClosesOwn c (runs c s r)
 runs_close c s r = ran_closes c s r r.ending
 
 asked_closes : (c : ℕ) (refused : Option ℕ) (s : State) (request : Request) → ClosesOwn c (asked c refused s request)
-asked_closes c refused s (Single line) = runs_close c s (ran Alone [] refused 0 (unspent s.machine) (line ∷ []) s.machine)
-asked_closes c refused s (CommandList lines) = runs_close c s (ran InList [] refused 0 (unspent s.machine) lines s.machine)
-asked_closes c refused s (OkList lines) = runs_close c s (ran InList list_ok refused 0 (unspent s.machine) lines s.machine)
+asked_closes c refused s (Single line) = runs_close c s (ran Alone [] refused 0 (unspent s.machine (tags_seen s.masks c)) (line ∷ []) s.machine)
+asked_closes c refused s (CommandList lines) = runs_close c s (ran InList [] refused 0 (unspent s.machine (tags_seen s.masks c)) lines s.machine)
+asked_closes c refused s (OkList lines) = runs_close c s (ran InList list_ok refused 0 (unspent s.machine (tags_seen s.masks c)) lines s.machine)
 asked_closes c refused s Noidle = λ h. inl refl
 
 waiting_closes : (noidle : Bool) (c : ℕ) (s : State) → ClosesOwn c (waits_no_more noidle c s)

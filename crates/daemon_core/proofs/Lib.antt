@@ -19,3 +19,4 @@ mod Lasting
 mod SoundLaws
 mod SongForms
 mod SongLaws
+mod SeenLaws

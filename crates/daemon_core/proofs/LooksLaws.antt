@@ -16,6 +16,7 @@ use Rattle.state_codec.specs.declared.op.Op.{Op}
 use Rattle.daemon_core.specs.Run.{Did, Goes, Refuses, Ends, Ran, Spent, attempted, follow, is_refused_at, looks_of_line, ran, spent_behind}
 use Rattle.daemon_core.specs.Run.{unspent, wants_memory}
 use Rattle.daemon_core.specs.Session.{of_ran, runs}
+use Rattle.daemon_core.specs.Seen.{tags_seen}
 use Rattle.daemon_core.specs.State.{State}
 use Rattle.daemon_core.specs.Step.{acted, asked, connects_client, is_noidle, requested_by, step, waiting_of, waits_no_more}
 use Rattle.daemon_core.specs.declared.event.Event.{Event}
@@ -42,17 +43,18 @@ follow_within separator index behind m rest (Goes x) within later = later (behin
 follow_within separator index behind m rest (Refuses refusal) within later = within []
 follow_within separator index behind m rest (Ends ending) within later = within []
 
-unless_refused : (m : MachineState) (index : ℕ) (line : List ℕ) (r : Ran) (here : Bool) → r.looks ≤ max_looks →
-    let s = cond here (wants_memory m index line) r in s.looks ≤ max_looks
-unless_refused m index line r true within = omega arith
-unless_refused m index line r false within = within
+unless_refused : (spent : Spent) (m : MachineState) (index : ℕ) (line : List ℕ) (r : Ran) (here : Bool) → r.looks ≤ max_looks →
+    let s = cond here (wants_memory m spent index line) r in s.looks ≤ max_looks
+unless_refused spent m index line r true within = omega arith
+unless_refused spent m index line r false within = within
 
-ran_within : (place : Place) (separator : List ℕ) (refused : Option ℕ) (index : ℕ) (spent : Spent) (lines : List (List ℕ)) (m : MachineState) →
+ran_within : (place : Place) (separator : List ℕ) (refused : Option ℕ) (index : ℕ) (spent : Spent) (lines : List (List ℕ))
+    (m : MachineState) →
     spent.looks ≤ max_looks → let r = ran place separator refused index spent lines m in r.looks ≤ max_looks
 unfolding ran
 ran_within place separator refused index spent [] m within = within
 ran_within place separator refused index spent (line ∷ lines) m within =
-    unless_refused m index line _ (is_refused_at refused index)
+    unless_refused spent m index line _ (is_refused_at refused index)
     (follow_within separator index (spent_behind place line m spent) m (λ n t. ran place separator refused (suc index) n lines t)
     (attempted place spent line m) (λ ops. looked_within spent.looks (looks_of_line place line m) within)
     (λ n t fits. ran_within place separator refused (suc index) n lines t fits))
@@ -67,9 +69,12 @@ runs_within : (c : ℕ) (s : State) (r : Ran) → r.looks ≤ max_looks → let 
 runs_within c s r within = of_ran_within c s r r.ending within
 
 asked_within : (c : ℕ) (refused : Option ℕ) (s : State) (request : Request) → let a = asked c refused s request in a.looks ≤ max_looks
-asked_within c refused s (Single line) = runs_within c s _ (ran_within Alone [] refused 0 (unspent s.machine) (line ∷ []) s.machine (omega arith))
-asked_within c refused s (CommandList lines) = runs_within c s _ (ran_within InList [] refused 0 (unspent s.machine) lines s.machine (omega arith))
-asked_within c refused s (OkList lines) = runs_within c s _ (ran_within InList list_ok refused 0 (unspent s.machine) lines s.machine (omega arith))
+asked_within c refused s (Single line) = runs_within c s _ (ran_within Alone [] refused 0 (unspent s.machine (tags_seen s.masks c))
+    (line ∷ []) s.machine (omega arith))
+asked_within c refused s (CommandList lines) = runs_within c s _ (ran_within InList [] refused 0 (unspent s.machine
+    (tags_seen s.masks c)) lines s.machine (omega arith))
+asked_within c refused s (OkList lines) = runs_within c s _ (ran_within InList list_ok refused 0 (unspent s.machine
+    (tags_seen s.masks c)) lines s.machine (omega arith))
 asked_within c refused s Noidle = omega arith
 
 waits_within : (noidle : Bool) (c : ℕ) (s : State) → let a = waits_no_more noidle c s in a.looks ≤ max_looks

@@ -16,6 +16,7 @@ use Rattle.state_codec.specs.declared.op.Op.{Op}
 use Rattle.daemon_core.specs.Run.{Did, Goes, Refuses, Ends, attempted, Ran, wants_memory, preceded, follow, is_refused_at, ran}
 use Rattle.daemon_core.specs.Run.{Spent, spent_behind, unspent}
 use Rattle.daemon_core.specs.Session.{Acted, of_ran, runs}
+use Rattle.daemon_core.specs.Seen.{tags_seen}
 use Rattle.daemon_core.specs.State.{State}
 use Rattle.daemon_core.specs.Step.{connects_client, asked, waits_no_more, is_noidle, requested_by, waiting_of, acted, settles, step}
 use Rattle.daemon_core.specs.declared.event.Event.{Event}
@@ -31,10 +32,10 @@ place_is : (refused : Option ℕ) (index : ℕ) → is_refused_at refused index 
 place_is None index h = absurd (false≢true h)
 place_is (Some place) index h = ap Some (sym (eqb-true place index h))
 
-here_reaches : (refused : Option ℕ) (m : MachineState) (index : ℕ) (line : List ℕ) (r free : Ran) (here : Bool) →
-    is_refused_at refused index ≡ here → Reaches refused r free → Reaches refused (cond here (wants_memory m index line) r) free
-here_reaches refused m index line r free true h later = inl (place_is refused index h)
-here_reaches refused m index line r free false h later = later
+here_reaches : (refused : Option ℕ) (spent : Spent) (m : MachineState) (index : ℕ) (line : List ℕ) (r free : Ran) (here : Bool) →
+    is_refused_at refused index ≡ here → Reaches refused r free → Reaches refused (cond here (wants_memory m spent index line) r) free
+here_reaches refused spent m index line r free true h later = inl (place_is refused index h)
+here_reaches refused spent m index line r free false h later = later
 
 behind_reaches : (text : List ℕ) (changes : Subsystems) (ops : List Op) (refused : Option ℕ) (r free : Ran) → Reaches refused r free →
     Reaches refused (preceded text changes ops r) (preceded text changes ops free)
@@ -61,7 +62,7 @@ ran_reaches : (place : Place) (separator : List ℕ) (refused : Option ℕ) (ind
 unfolding ran
 ran_reaches place separator refused index spent [] m = inr refl
 ran_reaches place separator refused index spent (line ∷ lines) m =
-    here_reaches refused m index line _ _ (is_refused_at refused index) refl
+    here_reaches refused spent m index line _ _ (is_refused_at refused index) refl
     (follow_reaches separator index (spent_behind place line m spent) m refused (λ n t. ran place separator refused (suc index) n lines t)
     (λ n t. ran place separator None (suc index) n lines t) (attempted place spent line m)
     (λ n t. ran_reaches place separator refused (suc index) n lines t))
@@ -101,9 +102,12 @@ runs_reaches c s refused r free (inr e) = inr (ap (runs c s) e)
 
 asked_reaches : (c : ℕ) (refused : Option ℕ) (s : State) (request : Request) →
     ActReaches refused (asked c refused s request) (asked c None s request)
-asked_reaches c refused s (Single line) = runs_reaches c s refused _ _ (ran_reaches Alone [] refused 0 (unspent s.machine) (line ∷ []) s.machine)
-asked_reaches c refused s (CommandList lines) = runs_reaches c s refused _ _ (ran_reaches InList [] refused 0 (unspent s.machine) lines s.machine)
-asked_reaches c refused s (OkList lines) = runs_reaches c s refused _ _ (ran_reaches InList list_ok refused 0 (unspent s.machine) lines s.machine)
+asked_reaches c refused s (Single line) = runs_reaches c s refused _ _ (ran_reaches Alone [] refused 0 (unspent s.machine
+    (tags_seen s.masks c)) (line ∷ []) s.machine)
+asked_reaches c refused s (CommandList lines) = runs_reaches c s refused _ _ (ran_reaches InList [] refused 0 (unspent s.machine
+    (tags_seen s.masks c)) lines s.machine)
+asked_reaches c refused s (OkList lines) = runs_reaches c s refused _ _ (ran_reaches InList list_ok refused 0 (unspent s.machine
+    (tags_seen s.masks c)) lines s.machine)
 asked_reaches c refused s Noidle = inr refl
 
 requested_reaches : (c : ℕ) (refused : Option ℕ) (s : State) (request : Request) (found : Option (Option Subsystems)) →
@@ -136,9 +140,12 @@ ran_place : (c : ℕ) (s : State) (r : Ran) → r.refused_at ≡ None → let a 
 ran_place c s r none = of_ran_place c s r r.ending ∙ none
 
 asked_names_none : (c : ℕ) (s : State) (request : Request) → let a = asked c None s request in a.refused_at ≡ None
-asked_names_none c s (Single line) = ran_place c s _ (ran_names_none Alone [] 0 (unspent s.machine) (line ∷ []) s.machine)
-asked_names_none c s (CommandList lines) = ran_place c s _ (ran_names_none InList [] 0 (unspent s.machine) lines s.machine)
-asked_names_none c s (OkList lines) = ran_place c s _ (ran_names_none InList list_ok 0 (unspent s.machine) lines s.machine)
+asked_names_none c s (Single line) = ran_place c s _ (ran_names_none Alone [] 0 (unspent s.machine (tags_seen s.masks c))
+    (line ∷ []) s.machine)
+asked_names_none c s (CommandList lines) = ran_place c s _ (ran_names_none InList [] 0 (unspent s.machine
+    (tags_seen s.masks c)) lines s.machine)
+asked_names_none c s (OkList lines) = ran_place c s _ (ran_names_none InList list_ok 0 (unspent s.machine
+    (tags_seen s.masks c)) lines s.machine)
 asked_names_none c s Noidle = refl
 
 waiting_names_none : (noidle : Bool) (c : ℕ) (s : State) → let a = waits_no_more noidle c s in a.refused_at ≡ None

@@ -4,6 +4,7 @@ use Rattle.std.proofs.Common.{refl, subst, ◌∙◌, ap, arith, length-append}
 use Rattle.std.specs.Prelude.{Result, Ok, Err, nat_le}
 use Rattle.std.specs.Option.{option_and_then}
 use Rattle.std.proofs.lemmas.Bool.{leb-true}
+use Rattle.command_text.specs.declared.tag_mask.TagMask.{TagMask}
 use Rattle.command_text.specs.Answer.{list_ok}
 use Rattle.command_text.specs.Reading.{line_reading}
 use Rattle.command_text.specs.declared.command.Command.{Command}
@@ -39,6 +40,7 @@ use Rattle.daemon_core.specs.Run.{Ran, wants_memory, follow, is_refused_at, ran}
 use Rattle.daemon_core.specs.Run.{Spent, spent_behind, unspent}
 use Rattle.daemon_core.specs.Reported.{IsRebuilt, IsReported}
 use Rattle.daemon_core.specs.Session.{happened, of_ran, runs}
+use Rattle.daemon_core.specs.Seen.{tags_seen}
 use Rattle.daemon_core.specs.State.{State}
 use Rattle.daemon_core.specs.Step.{connects_client, asked, waits_no_more, is_noidle, requested_by, waiting_of, acted, step}
 use Rattle.daemon_core.specs.declared.event.Event.{Event}
@@ -48,7 +50,7 @@ use Rattle.daemon_core.specs.declared.outcome.Ending.TheVariants.{Answered, Clos
 
 -- the ops of each command rebuild the saved half
 abbrev pub CommandsRebuild : Type 0
-CommandsRebuild = (command : Command) (m : MachineState) (x : Meaning) → meaning command m ≡ Ok x →
+CommandsRebuild = (mask : TagMask) (command : Command) (m : MachineState) (x : Meaning) → meaning mask command m ≡ Ok x →
     all_applied x.ops m.saved ≡ Some x.after.saved
 
 -- what was done is rebuilt by its ops, which fit
@@ -67,11 +69,13 @@ within_rebuilds : (size : ℕ) (m : MachineState) (name : CommandName) (x : Mean
 within_rebuilds size m name x true h same = record { state = same; fits = leb-true _ _ h }
 within_rebuilds size m name x false h same = tt
 
-did_rebuilds : (law : CommandsRebuild) (size : ℕ) (m : MachineState) (name : CommandName) (command : Command) (meant : Meant) →
-    meaning command m ≡ meant → Rebuilds size m (did_of name (within m.saved.profile size meant))
-did_rebuilds law size m name command (Err refusal) is = tt
-did_rebuilds law size m name command (Ok x) is =
-    within_rebuilds size m name x (nat_le (size + length (ops_bytes m.saved.profile x.ops)) max_request_bytes) refl (law command m x is)
+did_rebuilds : (law : CommandsRebuild) (mask : TagMask) (size : ℕ) (m : MachineState) (name : CommandName) (command : Command)
+    (meant : Meant) →
+    meaning mask command m ≡ meant → Rebuilds size m (did_of name (within m.saved.profile size meant))
+did_rebuilds law mask size m name command (Err refusal) is = tt
+did_rebuilds law mask size m name command (Ok x) is =
+    within_rebuilds size m name x (nat_le (size + length (ops_bytes m.saved.profile x.ops)) max_request_bytes) refl
+    (law mask command m x is)
 
 unless_rebuilds : (size : ℕ) (m : MachineState) (ending : Option Ending) (did : Did) → Rebuilds size m did →
     Rebuilds size m (unless_it_ends ending did)
@@ -90,8 +94,9 @@ performed_rebuilds : (law : CommandsRebuild) (spent : Spent) (named : NamedComma
 unfolding performed
 performed_rebuilds law spent named m =
     unless_rebuilds spent.size m (ending_of named.command) _
-    (weighed_rebuilds spent.size m named.name (meaning named.command m) (nat_le (spent.looks + looks_of named.command m) max_looks)
-    (did_rebuilds law spent.size m named.name named.command (meaning named.command m) refl))
+    (weighed_rebuilds spent.size m named.name (meaning spent.tags named.command m) (nat_le (spent.looks + looks_of named.command m)
+    max_looks)
+    (did_rebuilds law spent.tags spent.size m named.name named.command (meaning spent.tags named.command m) refl))
 
 read_rebuilds : (law : CommandsRebuild) (spent : Spent) (m : MachineState) (read : Result NamedCommand Refusal) →
     Rebuilds spent.size m (read_and_performed spent m read)
@@ -136,10 +141,11 @@ follow_rebuilds separator index place line spent m rest (Refuses refusal) within
 follow_rebuilds separator index place line spent m rest (Ends ending) within same later =
     record { state = refl; fits = omega (arith, within) }
 
-here_rebuilds : (size : ℕ) (m : MachineState) (index : ℕ) (line : List ℕ) (r : Ran) (here : Bool) → size ≤ max_request_bytes →
-    Rebuilt size m r.after r.ops → let either = cond here (wants_memory m index line) r in Rebuilt size m either.after either.ops
-here_rebuilds size m index line r true within same = record { state = refl; fits = omega (arith, within) }
-here_rebuilds size m index line r false within same = same
+here_rebuilds : (size : ℕ) (spent : Spent) (m : MachineState) (index : ℕ) (line : List ℕ) (r : Ran) (here : Bool)
+    → size ≤ max_request_bytes →
+    Rebuilt size m r.after r.ops → let either = cond here (wants_memory m spent index line) r in Rebuilt size m either.after either.ops
+here_rebuilds size spent m index line r true within same = record { state = refl; fits = omega (arith, within) }
+here_rebuilds size spent m index line r false within same = same
 
 ran_rebuilds : (law : CommandsRebuild) (place : Place) (separator : List ℕ) (refused : Option ℕ) (index : ℕ) (spent : Spent)
     (lines : List (List ℕ)) (m : MachineState) → spent.size ≤ max_request_bytes →
@@ -147,7 +153,7 @@ ran_rebuilds : (law : CommandsRebuild) (place : Place) (separator : List ℕ) (r
 unfolding ran
 ran_rebuilds law place separator refused index spent [] m within = record { state = refl; fits = omega (arith, within) }
 ran_rebuilds law place separator refused index spent (line ∷ lines) m within =
-    here_rebuilds spent.size m index line _ (is_refused_at refused index) within
+    here_rebuilds spent.size spent m index line _ (is_refused_at refused index) within
     (follow_rebuilds separator index place line spent m (λ n t. ran place separator refused (suc index) n lines t)
     (attempted place spent line m) within (attempted_rebuilds law place spent line m)
     (λ n t fits. ran_rebuilds law place separator refused (suc index) n lines t fits))
@@ -177,11 +183,14 @@ runs_rebuilds c s r h = of_ran_rebuilds c s r r.ending h
 asked_rebuilds : (law : CommandsRebuild) (c : ℕ) (refused : Option ℕ) (s : State) (request : Request) →
     let a = asked c refused s request in WholeRebuilt s.machine a.after.machine a.ops
 asked_rebuilds law c refused s (Single line) =
-    runs_rebuilds c s _ (ran_rebuilds law Alone [] refused 0 (unspent s.machine) (line ∷ []) s.machine (checksum_fits s.machine.saved.profile))
+    runs_rebuilds c s _ (ran_rebuilds law Alone [] refused 0 (unspent s.machine (tags_seen s.masks c)) (line ∷ []) s.machine
+    (checksum_fits s.machine.saved.profile))
 asked_rebuilds law c refused s (CommandList lines) =
-    runs_rebuilds c s _ (ran_rebuilds law InList [] refused 0 (unspent s.machine) lines s.machine (checksum_fits s.machine.saved.profile))
+    runs_rebuilds c s _ (ran_rebuilds law InList [] refused 0 (unspent s.machine (tags_seen s.masks c)) lines s.machine
+    (checksum_fits s.machine.saved.profile))
 asked_rebuilds law c refused s (OkList lines) =
-    runs_rebuilds c s _ (ran_rebuilds law InList list_ok refused 0 (unspent s.machine) lines s.machine (checksum_fits s.machine.saved.profile))
+    runs_rebuilds c s _ (ran_rebuilds law InList list_ok refused 0 (unspent s.machine (tags_seen s.masks c)) lines s.machine
+    (checksum_fits s.machine.saved.profile))
 asked_rebuilds law c refused s Noidle = same s
 
 waiting_rebuilds : (noidle : Bool) (c : ℕ) (s : State) → let a = waits_no_more noidle c s in WholeRebuilt s.machine a.after.machine a.ops

@@ -20,6 +20,7 @@ use Rattle.command_text.specs.declared.refusal.ReadError.{ReadError}
 use Rattle.command_text.specs.declared.refusal.ReadError.TheVariants as errors
 use Rattle.command_text.specs.declared.refusal.Refusal.{Refusal}
 use Rattle.command_text.specs.declared.refusal.Refusal.TheVariants.{OfCommand}
+use Rattle.command_text.specs.declared.tag_mask.TagMask.{TagMask}
 use Rattle.idle_masks.specs.Subsystems.{contains, none, union}
 use Rattle.idle_masks.specs.declared.subsystem.Subsystems.{Subsystems}
 use Rattle.machine_core.specs.Changed.{changed}
@@ -37,11 +38,14 @@ use Rattle.state_codec.specs.declared.op.Op.{Op}
 use Rattle.daemon_core.specs.Handled.{Does}
 use Rattle.daemon_core.specs.Parts.{state_of}
 use Rattle.daemon_core.specs.Request.{stop_of_reading, ran_of, WentOn, IsStop, Stopped, RunsLine, AnswersStop}
-use Rattle.daemon_core.specs.Request.{CountsLooks, RunsLines, looks_at_end}
+use Rattle.daemon_core.specs.Request.{CountsLooks, RunsLines, SeesTags, looks_at_end, tags_at_end}
 use Rattle.daemon_core.specs.Session.{of_ran, runs}
 use Rattle.daemon_core.specs.Run.{Did, Goes, Refuses, Ends, ending_of, did_of, unless_it_ends, performed, read_and_performed, attempted}
 use Rattle.daemon_core.specs.Run.{Ran, ends, wants_memory, preceded, follow, is_refused_at, ran, session_ending, settings_ending}
-use Rattle.daemon_core.specs.Run.{Spent, looks_of_line, looks_read, spent_behind, spent_of, unspent, within_both}
+use Rattle.daemon_core.specs.Run.{Spent, looks_of_line, looks_read, spent_behind, spent_of, tags_behind, tags_of_line, tags_read}
+use Rattle.daemon_core.specs.Run.{unspent, within_both}
+use Rattle.daemon_core.specs.Seen.{tags_seen}
+use Rattle.daemon_core.specs.declared.masks.ClientMask.{ClientMask}
 use Rattle.daemon_core.specs.declared.outcome.Ending.{Ending}
 use Rattle.daemon_core.specs.declared.handled.Handled.{Handled}
 use Rattle.daemon_core.specs.declared.outcome.Ending.TheVariants.{Answered, Closed, Killed, Waits}
@@ -131,12 +135,12 @@ within_limit : (profile : Profile) (size : ℕ) (x : Meaning) → size + length 
 within_limit profile size x fits =
     ap (λ b. cond b (Ok x) (Err RequestTooLarge)) (le-leb (size + length (ops_bytes profile x.ops)) max_request_bytes fits)
 
-pub performed_goes : (named : NamedCommand) (s t : MachineState) (before after : Work) (looks : ℕ)
-    (went : Went s.saved.profile (weighed looks (looks_of named.command s) (meaning named.command s)) t before after) →
-    ending_of named.command ≡ None → performed (spent_of before.size looks) named s ≡ Goes went.meaning
-performed_goes named s t before after looks went is =
+pub performed_goes : (named : NamedCommand) (s t : MachineState) (before after : Work) (looks : ℕ) (tags : TagMask)
+    (went : Went s.saved.profile (weighed looks (looks_of named.command s) (meaning tags named.command s)) t before after) →
+    ending_of named.command ≡ None → performed (spent_of before.size looks tags) named s ≡ Goes went.meaning
+performed_goes named s t before after looks tags went is =
     let x : Meaning = went.meaning in
-    performed_did (spent_of before.size looks) named s (Ok x) is
+    performed_did (spent_of before.size looks tags) named s (Ok x) is
     (ap (within s.saved.profile before.size) went.means
     ∙ within_limit s.saved.profile before.size x (let a = went.ops in omega (arith, a.size, a.fits)))
 
@@ -177,6 +181,7 @@ preceded_twice t u a b os ps r = λ i. record {
   ending = r.ending;
   refused_at = r.refused_at;
   looks = r.looks;
+  tags = r.tags;
 }
 
 preceded_none : (r : Ran) → preceded [] none [] r ≡ r
@@ -188,6 +193,7 @@ preceded_none r = λ i. record {
   ending = r.ending;
   refused_at = r.refused_at;
   looks = r.looks;
+  tags = r.tags;
 }
 
 -- memory was not refused before this command
@@ -197,7 +203,7 @@ NotBefore index refused = IfSome refused (λ place. index ≤ place)
 -- What was done so far: what is left of the request, done from here, makes it whole.
 pub record SoFar
     (place : Place) (between : List ℕ) (lines rest : List (List ℕ)) (index : ℕ) (first m : MachineState) (before now : Work)
-    (looks : ℕ) (changes : Subsystems) : Type 0 where
+    (looks : ℕ) (start tags : TagMask) (changes : Subsystems) : Type 0 where
   pub text : List ℕ
   pub made : List Op
   pub written : now.text.items ≡ before.text.items ++ text
@@ -205,19 +211,19 @@ pub record SoFar
   pub room : HasRoom ack_room now
   pub left : index + length rest ≡ length lines
   pub whole : (refused : Option ℕ) → NotBefore index refused →
-      ran place between refused 0 (spent_of before.size 0) lines first
-      ≡ preceded text changes made (ran place between refused index (spent_of now.size looks) rest m)
+      ran place between refused 0 (spent_of before.size 0 start) lines first
+      ≡ preceded text changes made (ran place between refused index (spent_of now.size looks tags) rest m)
 
-pub so_far_begins : (place : Place) (between : List ℕ) (lines : List (List ℕ)) (first : MachineState) (before : Work) →
-    HasRoom ack_room before → SoFar place between lines lines 0 first first before before 0 none
-so_far_begins place between lines first before room = record {
+pub so_far_begins : (place : Place) (between : List ℕ) (lines : List (List ℕ)) (first : MachineState) (before : Work)
+    (start : TagMask) → HasRoom ack_room before → SoFar place between lines lines 0 first first before before 0 start start none
+so_far_begins place between lines first before start room = record {
   text = [];
   made = [];
   written = sym (append-nil before.text.items);
   ops = sym (append-nil before.ops.items);
   room = room;
   left = omega arith;
-  whole = λ refused _. sym (preceded_none (ran place between refused 0 (spent_of before.size 0) lines first));
+  whole = λ refused _. sym (preceded_none (ran place between refused 0 (spent_of before.size 0 start) lines first));
 }
 
 later_is_not : (index : ℕ) (refused : Option ℕ) → NotBefore (suc index) refused → is_refused_at refused index ≡ false
@@ -236,19 +242,19 @@ next_goes : (place : Place) (between line : List ℕ) (rest : List (List ℕ)) (
     (ran place between refused (suc index) (spent_behind place line s spent x.ops) rest x.after)
 unfolding ran
 next_goes place between line rest index spent refused s x here did =
-    ap (λ b. cond b (wants_memory s index line)
+    ap (λ b. cond b (wants_memory s spent index line)
     (follow between index (spent_behind place line s spent) s (λ n u. ran place between refused (suc index) n rest u)
     (attempted place spent line s))) here
     ∙ ap (follow between index (spent_behind place line s spent) s (λ n u. ran place between refused (suc index) n rest u)) did
 
 -- one command went well
 pub so_far_goes : (place : Place) (between : List ℕ) (lines rest : List (List ℕ)) (line : List ℕ) (index : ℕ)
-    (first s t : MachineState) (before now after : Work) (looks more : ℕ) (changes set : Subsystems) →
-    SoFar place between lines (line ∷ rest) index first s before now looks changes →
-    WentOn between (attempted place (spent_of now.size looks) line s) s t now after set →
-    more ≡ looked looks (looks_of_line place line s) →
-    SoFar place between lines rest (suc index) first t before after more (union changes set)
-so_far_goes place between lines rest line index first s t before now after looks more changes set far went counted =
+    (first s t : MachineState) (before now after : Work) (looks more : ℕ) (start tags behind : TagMask) (changes set : Subsystems) →
+    SoFar place between lines (line ∷ rest) index first s before now looks start tags changes →
+    WentOn between (attempted place (spent_of now.size looks tags) line s) s t now after set →
+    more ≡ looked looks (looks_of_line place line s) → behind ≡ tags_of_line place line s tags →
+    SoFar place between lines rest (suc index) first t before after more start behind (union changes set)
+so_far_goes place between lines rest line index first s t before now after looks more start tags behind changes set far went counted seen =
     let x : Meaning = went.meaning in
     let a = went.ops in
     record {
@@ -262,74 +268,84 @@ so_far_goes place between lines rest line index first s t before now after looks
       whole = λ refused later.
           far.whole refused (later_before index refused later)
           ∙ ap (preceded far.text changes far.made)
-          (next_goes place between line rest index (spent_of now.size looks) refused s x (later_is_not index refused later) went.means)
+          (next_goes place between line rest index (spent_of now.size looks tags) refused s x (later_is_not index refused later) went.means)
           ∙ preceded_twice far.text (x.text ++ between) changes (changed s x.after) far.made x.ops
-          (ran place between refused (suc index) (spent_behind place line s (spent_of now.size looks) x.ops) rest x.after)
+          (ran place between refused (suc index) (spent_behind place line s (spent_of now.size looks tags) x.ops) rest x.after)
           ∙ (λ i. preceded (far.text ++ (x.text ++ between)) (union changes (changed s (sym went.stands i))) (far.made ++ x.ops)
-          (ran place between refused (suc index) (spent_of (sym a.size i) (sym counted i)) rest (sym went.stands i)))
+          (ran place between refused (suc index) (spent_of (sym a.size i) (sym counted i) (sym seen i)) rest (sym went.stands i)))
           ∙ ap (λ c. preceded (far.text ++ (x.text ++ between)) (union changes c) (far.made ++ x.ops)
-          (ran place between refused (suc index) (spent_of after.size more) rest t)) (sym went.changed);
+          (ran place between refused (suc index) (spent_of after.size more behind) rest t)) (sym went.changed);
     }
 
 -- what the answer to a stop makes of the rest of a request
 pub record StopsIt
     (place : Place) (between line : List ℕ) (rest : List (List ℕ)) (index : ℕ) (spent : Spent) (s : MachineState) (refused : Option ℕ)
-    (ending : Ending) (looks : ℕ) (work done : Work) : Type 0 where
+    (ending : Ending) (looks : ℕ) (tags : TagMask) (work done : Work) : Type 0 where
   pub text : List ℕ
-  pub same : ran place between refused index spent (line ∷ rest) s ≡ record (ends s looks text ending) { refused_at = refused }
+  pub same : ran place between refused index spent (line ∷ rest) s
+      ≡ record (ends s (spent_of 0 looks tags) text ending) { refused_at = refused }
   pub adds : AddsText text work done
   pub later : NotBefore index refused
   pub within : IfSome refused (λ at. at ≡ index)
 
 pub stops_it : (place : Place) (between line : List ℕ) (rest : List (List ℕ)) (index : ℕ) (spent : Spent) (s : MachineState)
-    (stop : Stop) (refused : Option ℕ) (ending : Ending) (looks : ℕ) (work done : Work) → IsStop (attempted place spent line s) stop →
-    CountsLooks (looked spent.looks (looks_of_line place line s)) looks (Err stop)
-    → AnswersStop s.saved.profile stop index line refused ending work done →
-    StopsIt place between line rest index spent s refused ending (looks_at_end refused looks) work done
+    (stop : Stop) (refused : Option ℕ) (ending : Ending) (looks : ℕ) (tags : TagMask) (work done : Work)
+    → IsStop (attempted place spent line s) stop
+    → CountsLooks (looked spent.looks (looks_of_line place line s)) looks (Err stop)
+    → SeesTags (tags_of_line place line s spent.tags) tags (Err stop)
+    → AnswersStop s.saved.profile stop index line refused ending work done
+    → StopsIt place between line rest index spent s refused ending (looks_at_end refused looks)
+    (tags_at_end refused spent.tags tags) work done
 unfolding ran
-stops_it place between line rest index spent s (stops.Ends it) None ending looks work done did counted answer = record {
+stops_it place between line rest index spent s (stops.Ends it) None ending looks tags work done did counted seen answer = record {
   text = [];
   same = ap (follow between index (spent_behind place line s spent) s (λ n u. ran place between None (suc index) n rest u)) did
-      ∙ (λ i. ends s (sym counted i) [] (sym answer.0 i));
+      ∙ (λ i. ends s (spent_of 0 (sym counted i) (sym seen i)) [] (sym answer.0 i));
   adds = answer.1;
   later = tt;
   within = tt;
 }
-stops_it place between line rest index spent s (stops.Refused refusal) None ending looks work done did counted answer = record {
+stops_it place between line rest index spent s (stops.Refused refusal) None ending looks tags work done did counted seen answer = record {
   text = ack index refusal;
   same = ap (follow between index (spent_behind place line s spent) s (λ n u. ran place between None (suc index) n rest u)) did
-      ∙ (λ i. ends s (sym counted i) (ack index refusal) (sym answer.0 i));
+      ∙ (λ i. ends s (spent_of 0 (sym counted i) (sym seen i)) (ack index refusal) (sym answer.0 i));
   adds = answer.1;
   later = tt;
   within = tt;
 }
-stops_it place between line rest index spent s stops.NoMemory None ending looks work done did counted answer = absurd answer
-stops_it place between line rest index spent s stop (Some at) ending looks work done did counted answer =
+stops_it place between line rest index spent s stops.NoMemory None ending looks tags work done did counted seen answer = absurd answer
+stops_it place between line rest index spent s stop (Some at) ending looks tags work done did counted seen answer =
     let wants = answer.1 in
     record {
       text = ack index (want_of_memory (name_of_line s.saved.profile line));
-      same = ap (λ b. cond b (wants_memory s index line)
+      same = ap (λ b. cond b (wants_memory s spent index line)
           (follow between index (spent_behind place line s spent) s (λ n u. ran place between (Some at) (suc index) n rest u)
           (attempted place spent line s)))
           (eq-eqb at index answer.0)
-          ∙ (λ i. record (ends s max_looks (ack index (want_of_memory (name_of_line s.saved.profile line))) (sym wants.0 i))
+          ∙ (λ i. record (ends s (spent_of 0 max_looks spent.tags) (ack index (want_of_memory (name_of_line s.saved.profile line)))
+          (sym wants.0 i))
           { refused_at = Some (sym answer.0 i) });
       adds = wants.1;
       later = omega (arith, answer.0);
       within = answer.0;
     }
 
+abbrev end_of : Ending → Subsystems → Option ℕ → ℕ → TagMask → RequestEnd
+end_of ending changes refused looks tags =
+    record { ending = ending; changed = changes; refused_at = refused; looks = looks; tags = tags }
+
 -- the request has ended
 ran_ends : (place : Place) (between : List ℕ) (lines rest : List (List ℕ)) (index : ℕ) (first s : MachineState) (before now after : Work)
-    (looks all : ℕ) (changes : Subsystems) (refused : Option ℕ) (text : List ℕ) (ending : Ending) →
-    SoFar place between lines rest index first s before now looks changes → NotBefore index refused →
-    ran place between refused index (spent_of now.size looks) rest s ≡ record (ends s all text ending) { refused_at = refused } → AddsText
-    text now after →
+    (looks all : ℕ) (start tags seen : TagMask) (changes : Subsystems) (refused : Option ℕ) (text : List ℕ) (ending : Ending) →
+    SoFar place between lines rest index first s before now looks start tags changes → NotBefore index refused →
+    ran place between refused index (spent_of now.size looks tags) rest s
+    ≡ record (ends s (spent_of 0 all seen) text ending) { refused_at = refused } → AddsText text now after →
     IfSome refused (λ at. at < length lines) →
-    RunsLines place between lines first s before after (record { ending = ending; changed = changes; refused_at = refused; looks = all })
-ran_ends place between lines rest index first s before now after looks all changes refused text ending far later ended adds within =
-    let whole : ran place between refused 0 (spent_of before.size 0) lines first
-    ≡ preceded far.text changes far.made (record (ends s all text ending) { refused_at = refused }) =
+    RunsLines place between start lines first s before after (end_of ending changes refused all seen)
+ran_ends place between lines rest index first s before now after looks all start tags seen changes refused text ending far later ended adds
+    within =
+    let whole : ran place between refused 0 (spent_of before.size 0 start) lines first
+    ≡ preceded far.text changes far.made (record (ends s (spent_of 0 all seen) text ending) { refused_at = refused }) =
     far.whole refused later ∙ ap (preceded far.text changes far.made) ended in
     record {
       stands = sym (ap (λ r. r.after) whole);
@@ -341,6 +357,7 @@ ran_ends place between lines rest index first s before now after looks all chang
       ending = sym (ap (λ r. r.ending) whole);
       refused_at = sym (ap (λ r. r.refused_at) whole);
       looks = sym (ap (λ r. r.looks) whole);
+      sees = sym (ap (λ r. r.tags) whole);
       within = within;
     }
 
@@ -350,24 +367,28 @@ at_within index count (Some at) below h = omega (arith, below, h)
 
 -- the next command stopped it
 pub ran_stops : (place : Place) (between : List ℕ) (lines whole rest : List (List ℕ)) (bytes : List ℕ) (index : ℕ)
-    (first s t : MachineState) (before now mid after : Work) (looks more all : ℕ) (changes : Subsystems) (stop : Stop)
-    (refused : Option ℕ) (ending : Ending) → whole ≡ bytes ∷ rest → SoFar place between lines whole index first s before now looks changes →
-    Stopped (attempted place (spent_of now.size looks) bytes s) s t now mid stop →
+    (first s t : MachineState) (before now mid after : Work) (looks more all : ℕ) (start tags behind seen : TagMask) (changes : Subsystems)
+    (stop : Stop) (refused : Option ℕ) (ending : Ending) → whole ≡ bytes ∷ rest
+    → SoFar place between lines whole index first s before now looks start tags changes →
+    Stopped (attempted place (spent_of now.size looks tags) bytes s) s t now mid stop →
     CountsLooks (looked looks (looks_of_line place bytes s)) more (Err stop) → all ≡ looks_at_end refused more →
+    SeesTags (tags_of_line place bytes s tags) behind (Err stop) → seen ≡ tags_at_end refused tags behind →
     AnswersStop t.saved.profile stop index bytes refused ending mid after →
-    RunsLines place between lines first t before after (record { ending = ending; changed = changes; refused_at = refused; looks = all })
-ran_stops place between lines whole rest bytes index first s t before now mid after looks more all changes stop refused ending parts
-    whole_far stopped counted is answer =
-    let far : SoFar place between lines (bytes ∷ rest) index first s before now looks changes =
-    subst (λ r. SoFar place between lines r index first s before now looks changes) parts whole_far in
-    let it = stops_it place between bytes rest index (spent_of now.size looks) s stop refused ending more mid after stopped.why counted
+    RunsLines place between start lines first t before after (end_of ending changes refused all seen)
+ran_stops place between lines whole rest bytes index first s t before now mid after looks more all start tags behind seen changes stop
+    refused
+    ending parts whole_far stopped counted is sees at_end answer =
+    let far : SoFar place between lines (bytes ∷ rest) index first s before now looks start tags changes =
+    subst (λ r. SoFar place between lines r index first s before now looks start tags changes) parts whole_far in
+    let it = stops_it place between bytes rest index (spent_of now.size looks tags) s stop refused ending more behind mid after stopped.why
+    counted sees
     (subst (λ (u : MachineState). AnswersStop u.saved.profile stop index bytes refused ending mid after) stopped.stands answer) in
     let nothing = stopped.nothing in
     let adds = it.adds in
-    subst (λ u. RunsLines place between lines first u before after
-    (record { ending = ending; changed = changes; refused_at = refused; looks = all })) (sym stopped.stands)
-    (ran_ends place between lines (bytes ∷ rest) index first s before now after looks all changes refused it.text ending far it.later
-    (it.same ∙ (λ i. record (ends s (sym is i) it.text ending) { refused_at = refused }))
+    subst (λ u. RunsLines place between start lines first u before after (end_of ending changes refused all seen)) (sym stopped.stands)
+    (ran_ends place between lines (bytes ∷ rest) index first s before now after looks all start tags seen changes refused it.text ending far
+    it.later
+    (it.same ∙ (λ i. record (ends s (spent_of 0 (sym is i) (sym at_end i)) it.text ending) { refused_at = refused }))
     (record {
       text = adds.text ∙ ap (λ x. x ++ it.text) nothing.text;
       ops = adds.ops ∙ nothing.ops;
@@ -376,41 +397,45 @@ ran_stops place between lines whole rest bytes index first s t before now mid af
     (at_within index (length lines) refused (omega (arith, far.left)) it.within))
 
 pub ran_goes : (place : Place) (between : List ℕ) (lines whole rest : List (List ℕ)) (bytes : List ℕ) (index : ℕ)
-    (first s t : MachineState) (before now after : Work) (looks more : ℕ) (changes set : Subsystems) → whole ≡ bytes ∷ rest →
-    SoFar place between lines whole index first s before now looks changes →
-    WentOn between (attempted place (spent_of now.size looks) bytes s) s t now after set →
-    more ≡ looked looks (looks_of_line place bytes s) →
-    SoFar place between lines rest (index + 1) first t before after more (union changes set)
-ran_goes place between lines whole rest bytes index first s t before now after looks more changes set parts far h counted =
-    subst (λ n. SoFar place between lines rest n first t before after more (union changes set)) (omega arith)
-    (so_far_goes place between lines rest bytes index first s t before now after looks more changes set
-    (subst (λ r. SoFar place between lines r index first s before now looks changes) parts far) h counted)
+    (first s t : MachineState) (before now after : Work) (looks more : ℕ) (start tags behind : TagMask) (changes set : Subsystems)
+    → whole ≡ bytes ∷ rest →
+    SoFar place between lines whole index first s before now looks start tags changes →
+    WentOn between (attempted place (spent_of now.size looks tags) bytes s) s t now after set →
+    more ≡ looked looks (looks_of_line place bytes s) → behind ≡ tags_of_line place bytes s tags →
+    SoFar place between lines rest (index + 1) first t before after more start behind (union changes set)
+ran_goes place between lines whole rest bytes index first s t before now after looks more start tags behind changes set parts far h counted
+    seen =
+    subst (λ n. SoFar place between lines rest n first t before after more start behind (union changes set)) (omega arith)
+    (so_far_goes place between lines rest bytes index first s t before now after looks more start tags behind changes set
+    (subst (λ r. SoFar place between lines r index first s before now looks start tags changes) parts far) h counted seen)
 
 next_none : (place : Place) (between : List ℕ) (index : ℕ) (spent : Spent) (s : MachineState) →
-    ran place between None index spent [] s ≡ ends s spent.looks ok Answered
+    ran place between None index spent [] s ≡ ends s spent ok Answered
 unfolding ran
 next_none place between index spent s = refl
 
 pub ran_all : (place : Place) (between : List ℕ) (lines rest : List (List ℕ)) (index : ℕ) (first s : MachineState)
-    (before now after : Work) (looks all : ℕ) (changes : Subsystems) → rest ≡ [] →
-    SoFar place between lines rest index first s before now looks changes → all ≡ looks → AddsText ok now after →
-    RunsLines place between lines first s before after (record { ending = Answered; changed = changes; refused_at = None; looks = all })
-ran_all place between lines [] index first s before now after looks all changes empty far is h =
-    ran_ends place between lines [] index first s before now after looks all changes None ok Answered far tt
-    (next_none place between index (spent_of now.size looks) s ∙ (λ i. ends s (sym is i) ok Answered)) h tt
-ran_all place between lines (r ∷ rest) index first s before now after looks all changes empty far is h = cc
+    (before now after : Work) (looks all : ℕ) (start tags : TagMask) (changes : Subsystems) → rest ≡ [] →
+    SoFar place between lines rest index first s before now looks start tags changes → all ≡ looks → AddsText ok now after →
+    RunsLines place between start lines first s before after (end_of Answered changes None all tags)
+ran_all place between lines [] index first s before now after looks all start tags changes empty far is h =
+    ran_ends place between lines [] index first s before now after looks all start tags tags changes None ok Answered far tt
+    (next_none place between index (spent_of now.size looks tags) s ∙ (λ i. ends s (spent_of 0 (sym is i) tags) ok Answered)) h tt
+ran_all place between lines (r ∷ rest) index first s before now after looks all start tags changes empty far is h = cc
 
 -- a command that went well, and what stands behind it
-pub went_on : (named : NamedCommand) (separator : List ℕ) (s t : MachineState) (before mid after : Work) (looks : ℕ) (set : Subsystems) →
-    Went s.saved.profile (weighed looks (looks_of named.command s) (meaning named.command s)) t before mid → ending_of named.command ≡ None →
+pub went_on : (named : NamedCommand) (separator : List ℕ) (s t : MachineState) (before mid after : Work) (looks : ℕ) (tags : TagMask)
+    (set : Subsystems) →
+    Went s.saved.profile (weighed looks (looks_of named.command s) (meaning tags named.command s)) t before mid → ending_of named.command
+    ≡ None →
     AddsText separator mid after → HasRoom ack_room after → set ≡ changed s t →
-    WentOn separator (performed (spent_of before.size looks) named s) s t before after set
-went_on named separator s t before mid after looks set went is adds room same =
+    WentOn separator (performed (spent_of before.size looks tags) named s) s t before after set
+went_on named separator s t before mid after looks tags set went is adds room same =
     let x : Meaning = went.meaning in
     let a = went.ops in
     record {
       meaning = x;
-      means = performed_goes named s t before mid looks went is;
+      means = performed_goes named s t before mid looks tags went is;
       stands = went.stands;
       text = adds.text ∙ ap (λ y. y ++ separator) went.text ∙ append_assoc before.text.items x.text separator;
       ops = record { ops = adds.ops ∙ a.ops; size = adds.size ∙ a.size; fits = omega (arith, adds.size, a.fits) };
@@ -426,7 +451,8 @@ words_stop place spent line m (errors.Refused refusal) stop read is =
 words_stop place spent line m errors.NoMemory stop read is = subst (IsStop (attempted place spent line m)) (sym is) tt
 
 pub command_stop : (place : Place) (spent : Spent) (line : List ℕ) (words slice : List (List ℕ)) (m : MachineState) (error : ReadError)
-    (stop : Stop) → line_words line ≡ Ok words → slice ≡ words → Gives {A = NamedCommand} (Err error) (command_of m.saved.profile place slice) →
+    (stop : Stop) → line_words line ≡ Ok words → slice ≡ words → Gives {A = NamedCommand} (Err error)
+    (command_of m.saved.profile place slice) →
     stop ≡ stop_of_reading error → IsStop (attempted place spent line m) stop
 command_stop place spent line words slice m (errors.Refused refusal) stop parted same read is =
     subst (IsStop (attempted place spent line m)) (sym is)
@@ -436,15 +462,15 @@ command_stop place spent line words slice m errors.NoMemory stop parted same rea
 
 -- a command that was read runs as its line does, and looks at what its line looks at
 pub line_runs : (place : Place) (between line : List ℕ) (words slice : List (List ℕ)) (named : NamedCommand) (s t : MachineState)
-    (before mid after : Work) (looks : ℕ) (r : Result Subsystems Stop) → line_words line ≡ Ok words → slice ≡ words →
+    (before mid after : Work) (looks : ℕ) (tags : TagMask) (r : Result Subsystems Stop) → line_words line ≡ Ok words → slice ≡ words →
     command_of s.saved.profile place slice ≡ Ok named → AddsNothing before mid →
-    RunsLine between (performed (spent_of mid.size looks) named s) s t mid after r →
-    RunsLine between (attempted place (spent_of before.size looks) line s) s t before after r
-line_runs place between line words slice named s t before mid after looks r parted same read nothing h =
-    runs_from between (attempted place (spent_of before.size looks) line s) s t before mid after r nothing
+    RunsLine between (performed (spent_of mid.size looks tags) named s) s t mid after r →
+    RunsLine between (attempted place (spent_of before.size looks tags) line s) s t before after r
+line_runs place between line words slice named s t before mid after looks tags r parted same read nothing h =
+    runs_from between (attempted place (spent_of before.size looks tags) line s) s t before mid after r nothing
     (subst (λ did. RunsLine between did s t mid after r)
-    (ap (λ n. performed (spent_of n looks) named s) nothing.size
-    ∙ read_performed place (spent_of before.size looks) line slice s named (parted ∙ ap Ok (sym same)) read) h)
+    (ap (λ n. performed (spent_of n looks tags) named s) nothing.size
+    ∙ read_performed place (spent_of before.size looks tags) line slice s named (parted ∙ ap Ok (sym same)) read) h)
 
 pub line_looks : (place : Place) (line : List ℕ) (words slice : List (List ℕ)) (named : NamedCommand) (m : MachineState) →
     line_words line ≡ Ok words → slice ≡ words → command_of m.saved.profile place slice ≡ Ok named →
@@ -459,6 +485,20 @@ looks_counted (Ok set) looks more same h = h ∙ ap (looked looks) same
 looks_counted (Err (stops.Ends ending)) looks more same h = h ∙ ap (looked looks) same
 looks_counted (Err (stops.Refused refusal)) looks more same h = h ∙ ap (looked looks) same
 looks_counted (Err stops.NoMemory) looks more same h = tt
+
+-- the same of the tags that its client sees behind it
+pub line_tags : (place : Place) (line : List ℕ) (words slice : List (List ℕ)) (named : NamedCommand) (m : MachineState) (tags : TagMask) →
+    line_words line ≡ Ok words → slice ≡ words → command_of m.saved.profile place slice ≡ Ok named →
+    tags_behind named.command tags ≡ tags_of_line place line m tags
+unfolding tags_of_line line_reading
+line_tags place line words slice named m tags parted same read =
+    sym (ap (λ w. tags_read (command_in m.saved.profile place w) tags) (parted ∙ ap Ok (sym same)) ∙ ap (λ r. tags_read r tags) read)
+
+pub tags_seen_so : (r : Result Subsystems Stop) (all tags : TagMask) → tags ≡ all → SeesTags all tags r
+tags_seen_so (Ok set) all tags is = is
+tags_seen_so (Err (stops.Ends ending)) all tags is = is
+tags_seen_so (Err (stops.Refused refusal)) all tags is = is
+tags_seen_so (Err stops.NoMemory) all tags is = tt
 
 -- What ends a request, and a line of which no command was read, looks at nothing.
 cond_same : (b : Bool) (n m : ℕ) → m ≡ n → m ≡ cond b n m
@@ -515,6 +555,30 @@ stop_counts place line m refusal stop looks read is =
     subst (λ (it : Stop). CountsLooks (looked looks (looks_of_line place line m)) looks (Err it)) (sym is)
     (unread_counts place line m refusal looks read)
 
+unread_tags : (place : Place) (line : List ℕ) (m : MachineState) (refusal : Refusal) (tags : TagMask) →
+    line_reading m.saved.profile place line ≡ Err refusal → tags ≡ tags_of_line place line m tags
+unfolding tags_of_line
+unread_tags place line m refusal tags read = sym (ap (λ r. tags_read r tags) read)
+
+-- a line of which no command was read leaves the tags that its client sees
+pub words_tags : (place : Place) (line : List ℕ) (m : MachineState) (error : ReadError) (stop : Stop) (tags : TagMask) →
+    GivesWords (Err error) (line_words line) → stop ≡ stop_of_reading error → SeesTags (tags_of_line place line m tags) tags (Err stop)
+words_tags place line m (errors.Refused refusal) stop tags read is =
+    tags_seen_so (Err stop) (tags_of_line place line m tags) tags
+    (unread_tags place line m refusal tags (words_unread m.saved.profile place line refusal read))
+words_tags place line m errors.NoMemory stop tags read is =
+    subst (λ (it : Stop). SeesTags (tags_of_line place line m tags) tags (Err it)) (sym is) tt
+
+pub command_tags : (place : Place) (line : List ℕ) (words slice : List (List ℕ)) (m : MachineState) (error : ReadError) (stop : Stop)
+    (tags : TagMask) → line_words line ≡ Ok words → slice ≡ words
+    → Gives {A = NamedCommand} (Err error) (command_of m.saved.profile place slice) → stop ≡ stop_of_reading error
+    → SeesTags (tags_of_line place line m tags) tags (Err stop)
+command_tags place line words slice m (errors.Refused refusal) stop tags parted same read is =
+    tags_seen_so (Err stop) (tags_of_line place line m tags) tags
+    (unread_tags place line m refusal tags (command_unread m.saved.profile place line slice refusal (parted ∙ ap Ok (sym same)) read))
+command_tags place line words slice m errors.NoMemory stop tags parted same read is =
+    subst (λ (it : Stop). SeesTags (tags_of_line place line m tags) tags (Err it)) (sym is) tt
+
 pub words_count : (place : Place) (line : List ℕ) (m : MachineState) (error : ReadError) (stop : Stop) (looks : ℕ) →
     GivesWords (Err error) (line_words line) → stop ≡ stop_of_reading error →
     CountsLooks (looked looks (looks_of_line place line m)) looks (Err stop)
@@ -524,54 +588,62 @@ words_count place line m errors.NoMemory stop looks read is =
     subst (λ (it : Stop). CountsLooks (looked looks (looks_of_line place line m)) looks (Err it)) (sym is) tt
 
 pub command_counts : (place : Place) (line : List ℕ) (words slice : List (List ℕ)) (m : MachineState) (error : ReadError) (stop : Stop)
-    (looks : ℕ) → line_words line ≡ Ok words → slice ≡ words → Gives {A = NamedCommand} (Err error) (command_of m.saved.profile place slice) →
+    (looks : ℕ) → line_words line ≡ Ok words → slice ≡ words → Gives {A = NamedCommand} (Err error)
+    (command_of m.saved.profile place slice) →
     stop ≡ stop_of_reading error → CountsLooks (looked looks (looks_of_line place line m)) looks (Err stop)
 command_counts place line words slice m (errors.Refused refusal) stop looks parted same read is =
-    stop_counts place line m refusal stop looks (command_unread m.saved.profile place line slice refusal (parted ∙ ap Ok (sym same)) read) is
+    stop_counts place line m refusal stop looks (command_unread m.saved.profile place line slice refusal (parted
+    ∙ ap Ok (sym same)) read) is
 command_counts place line words slice m errors.NoMemory stop looks parted same read is =
     subst (λ (it : Stop). CountsLooks (looked looks (looks_of_line place line m)) looks (Err it)) (sym is) tt
 
 -- what a request that ran makes of the clients doesn't hang on the machine before it
-of_ran_same : (c : ℕ) (clients : List Watched) (m n : MachineState) (r : Ran) (ending : Ending) →
-    of_ran c (record { machine = m; clients = clients }) r ending ≡ of_ran c (record { machine = n; clients = clients }) r ending
-of_ran_same c clients m n r Answered = refl
-of_ran_same c clients m n r Closed = refl
-of_ran_same c clients m n r Killed = refl
-of_ran_same c clients m n r (Waits mask) = refl
+of_ran_same : (c : ℕ) (clients : List Watched) (masks : List ClientMask) (m n : MachineState) (r : Ran) (ending : Ending) →
+    of_ran c (record { machine = m; clients = clients; masks = masks }) r ending
+    ≡ of_ran c (record { machine = n; clients = clients; masks = masks }) r ending
+of_ran_same c clients masks m n r Answered = refl
+of_ran_same c clients masks m n r Closed = refl
+of_ran_same c clients masks m n r Killed = refl
+of_ran_same c clients masks m n r (Waits mask) = refl
 
 -- the lines of a request were run, and its end was made
 pub lines_do : (c : ℕ) (place : Place) (between : List ℕ) (lines : List (List ℕ)) (before mid after : CoreParts) (fresh work : Work)
-    (end : RequestEnd) (handled : Handled) → fresh.text.items ≡ [] → fresh.ops.items ≡ [] →
+    (tags : TagMask) (end : RequestEnd) (handled : Handled) → fresh.text.items ≡ [] → fresh.ops.items ≡ [] →
     fresh.size ≡ checksum_len before.machine.saved.profile →
-    RunsLines place between lines before.machine mid.machine fresh work end → mid.watch ≡ before.watch →
+    RunsLines place between tags lines before.machine mid.machine fresh work end → mid.watch ≡ before.watch →
+    mid.masks.list.items ≡ before.masks.list.items → tags ≡ tags_seen before.masks.list.items c →
     Does (of_ran c (state_of mid) (ran_of mid.machine work end) end.ending) after handled →
-    Does (runs c (state_of before) (ran place between handled.outcome.refused_at 0 (unspent before.machine) lines before.machine)) after handled
-lines_do c place between lines before mid after fresh work end handled text ops size ran_so watch does =
-    let r : Ran = ran place between end.refused_at 0 (unspent before.machine) lines before.machine in
-    let here : ran place between end.refused_at 0 (spent_of fresh.size 0) lines before.machine ≡ r =
-    ap (λ n. ran place between end.refused_at 0 (spent_of n 0) lines before.machine) size in
+    Does (runs c (state_of before) (ran place between handled.outcome.refused_at 0 (unspent before.machine
+    (tags_seen before.masks.list.items c)) lines before.machine)) after handled
+lines_do c place between lines before mid after fresh work tags end handled text ops size ran_so watch masks seen does =
+    let r : Ran = ran place between end.refused_at 0 (unspent before.machine (tags_seen before.masks.list.items c)) lines before.machine in
+    let here : ran place between end.refused_at 0 (spent_of fresh.size 0 tags) lines before.machine ≡ r =
+    (λ i. ran place between end.refused_at 0 (spent_of (size i) 0 (seen i)) lines before.machine) in
     let same : ran_of mid.machine work end ≡ r = λ i. record {
       after = (ran_so.stands ∙ ap (λ x. x.after) here) i;
-      text = (ran_so.text ∙ ap (λ t. t ++ (ran place between end.refused_at 0 (spent_of fresh.size 0) lines before.machine).text) text
+      text = (ran_so.text ∙ ap (λ t. t ++ (ran place between end.refused_at 0 (spent_of fresh.size 0 tags) lines before.machine).text) text
           ∙ ap (λ x. x.text) here) i;
       changed = (ran_so.changed ∙ ap (λ x. x.changed) here) i;
-      ops = (ran_so.ops ∙ ap (λ t. t ++ (ran place between end.refused_at 0 (spent_of fresh.size 0) lines before.machine).ops) ops
+      ops = (ran_so.ops ∙ ap (λ t. t ++ (ran place between end.refused_at 0 (spent_of fresh.size 0 tags) lines before.machine).ops) ops
           ∙ ap (λ x. x.ops) here) i;
       ending = (ran_so.ending ∙ ap (λ x. x.ending) here) i;
       refused_at = (ran_so.refused_at ∙ ap (λ x. x.refused_at) here) i;
       looks = (ran_so.looks ∙ ap (λ x. x.looks) here) i;
+      tags = (ran_so.sees ∙ ap (λ x. x.tags) here) i;
     } in
     let at : handled.outcome.refused_at ≡ end.refused_at =
     does.refused_at ∙ of_ran_place c (state_of mid) (ran_of mid.machine work end) end.ending in
-    subst (λ place_at. Does (runs c (state_of before) (ran place between place_at 0 (unspent before.machine) lines before.machine)) after handled) (sym at)
+    subst (λ place_at. Does (runs c (state_of before) (ran place between place_at 0 (unspent before.machine
+    (tags_seen before.masks.list.items c)) lines before.machine)) after handled) (sym at)
     (subst (λ a. Does a after handled)
-    ((λ i. of_ran c (record { machine = mid.machine; clients = watch i }) (same i) (same i).ending)
-    ∙ of_ran_same c before.watch mid.machine before.machine r r.ending) does)
+    ((λ i. of_ran c (record { machine = mid.machine; clients = watch i; masks = masks i }) (same i) (same i).ending)
+    ∙ of_ran_same c before.watch before.masks.list.items mid.machine before.machine r r.ending) does)
 
 pub lines_place : (c : ℕ) (place : Place) (between : List ℕ) (lines : List (List ℕ)) (first t : MachineState) (mid after : CoreParts)
-    (fresh work : Work) (end : RequestEnd) (handled : Handled) → RunsLines place between lines first t fresh work end →
+    (fresh work : Work) (tags : TagMask) (end : RequestEnd) (handled : Handled) → RunsLines place between tags lines first t fresh work
+    end →
     Does (of_ran c (state_of mid) (ran_of mid.machine work end) end.ending) after handled →
     IfSome handled.outcome.refused_at (λ k. k < length lines)
-lines_place c place between lines first t mid after fresh work end handled ran_so does =
+lines_place c place between lines first t mid after fresh work tags end handled ran_so does =
     subst (λ at. IfSome at (λ k. k < length lines))
     (sym (does.refused_at ∙ of_ran_place c (state_of mid) (ran_of mid.machine work end) end.ending)) ran_so.within

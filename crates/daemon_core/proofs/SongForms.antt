@@ -9,18 +9,25 @@ use Rattle.machine_core.specs.Meaning.{Meant}
 use Rattle.machine_core.specs.State.{MachineState, settings_of}
 use Rattle.machine_core.specs.Steps.{moves, puts, from_named, step_of, step_in}
 use Rattle.machine_core.specs.declared.steps.PlayerStep.{PlayerStep}
-use Rattle.machine_core.specs.declared.steps.PlayerStep.TheVariants.{Resume, Play as PlayNamed, Seek, Next, Ended}
+use Rattle.machine_core.specs.declared.steps.PlayerStep.TheVariants.{Resume, Play as PlayNamed, Seek, Next, Ended, Failed}
 use Rattle.play_queue.specs.Entries.{Uris}
 use Rattle.play_queue.specs.declared.entry.Entry.{Entry}
-use Rattle.player_core.specs.Choice.{placed}
+use Rattle.player_core.specs.Choice.{chosen, placed}
 use Rattle.player_core.specs.Commands.{named, begun, stepped, stepped_if_any, to_resume, resumed, paused_if, paused, halted, next_one}
 use Rattle.player_core.specs.Commands.{again_from, in_front, gone_back, previous_one, played_from}
-use Rattle.player_core.specs.Ending.{over_at, over, ended_in, followed_by, gone_on_or_stopped}
-use Rattle.player_core.specs.Player.{PlayerState, Step, unchanged, started, without, gone_to, gone_on, in_round, left_out}
-use Rattle.player_core.specs.Reports.{followed, followed_at, gone, takes_at}
+use Rattle.player_core.specs.Ending.{over_at, over, ended_in, followed_by, gone_on_or_stopped, held, held_if, repeats_one, waits}
+use Rattle.player_core.specs.Order.{current_entry}
+use Rattle.player_core.specs.Player.{PlayerState, Step, unchanged, started, stopped_without_song, without}
+use Rattle.player_core.specs.Player.{gone_to, gone_on, in_round, left_out}
+use Rattle.player_core.specs.Reports.{broken, counts, failed_of, failure, followed, followed_at}
+use Rattle.player_core.specs.Reports.{gone, gone_in_pause, gone_on_without, passed}
+use Rattle.player_core.specs.Reports.{passes, takes_at}
 use Rattle.player_core.specs.Seek.{still, put_to, sought, frame_at, sought_current, sought_here}
 use Rattle.player_core.specs.declared.block.Block.{Block}
 use Rattle.player_core.specs.declared.choice.Choice.{Choice}
+use Rattle.player_core.specs.declared.failure.BrokenCause.{BrokenCause}
+use Rattle.player_core.specs.declared.manners.Manners.{Manners}
+use Rattle.player_core.specs.declared.manners.Manners.TheVariants.{Named, Mpd}
 use Rattle.player_core.specs.declared.options.Single.{Single}
 use Rattle.player_core.specs.declared.options.Single.TheVariants.{Off}
 use Rattle.player_core.specs.declared.playing.PlayState.{PlayState}
@@ -64,10 +71,26 @@ gone_to_song random player (Some id) = refl
 gone_on_song : (random : Bool) (player : PlayerState) (choice : Choice) → has_song (gone_on random player choice) ≡ true
 gone_on_song random player choice = gone_to_song random (in_round choice.order player) choice.id
 
+without_song : (entries : List Entry) (settings : PlaySettings) (block : Block) (dropped : Uris) (player : PlayerState)
+    (place : ℕ × ℕ) → let step = gone_on_without entries settings block dropped player place in has_song step.player ≡ true
+without_song entries settings block dropped player place = of (repeats_one settings.manners settings.options)
+  where
+    of : (b : Bool) → let step : Step = cond b (unchanged (stopped_without_song (left_out block dropped entries player)))
+        (stepped settings.options.random (left_out block dropped entries player)
+        (chosen settings entries block dropped player.played place.0 place.1)) in has_song step.player ≡ true
+    of true = refl
+    of false = gone_on_song settings.options.random (left_out block dropped entries player) _
+
+pause_song : (by : Manners) (entries : List Entry) (settings : PlaySettings) (block : Block) (dropped : Uris) (player : PlayerState)
+    (place : ℕ × ℕ) → let step = gone_in_pause by entries settings block dropped player place in has_song step.player ≡ true
+pause_song Named entries settings block dropped player place = refl
+pause_song Mpd entries settings block dropped player place = refl
+
 gone_song : (state : PlayState) (entries : List Entry) (settings : PlaySettings) (block : Block) (dropped : Uris) (player : PlayerState)
     (place : ℕ × ℕ) → let step = gone state entries settings block dropped player place in has_song step.player ≡ true
-gone_song Play entries settings block dropped player place = gone_on_song settings.options.random (left_out block dropped entries player) _
-gone_song Pause entries settings block dropped player place = refl
+gone_song Play entries settings block dropped player place = without_song entries settings block dropped player place
+gone_song Pause entries settings block dropped player place =
+    pause_song settings.manners entries settings block dropped player place
 gone_song Stop entries settings block dropped player place = refl
 
 followed_at_song : (entries : List Entry) (settings : PlaySettings) (block : Block) (dropped : Uris) (player : PlayerState)
@@ -113,11 +136,21 @@ next_song : (random : Bool) (player : PlayerState) (next : Option Choice) → ha
 next_song random player None = refl
 next_song random player (Some choice) = gone_on_song random player choice
 
+stop_held : (state : PlayState) → is_stop (held state) ≡ is_stop state
+stop_held Stop = refl
+stop_held Play = refl
+stop_held Pause = refl
+
+held_song : (b : Bool) (player : PlayerState) → has_song player ≡ true → has_song (held_if b player) ≡ true
+held_song false player h = h
+held_song true player h = ap (λ b. b || is_some player.current) (stop_held player.state) ∙ h
+
 over_at_song : (entries : List Entry) (settings : PlaySettings) (single : Single) (player : PlayerState) (place : Option (ℕ × ℕ)) →
     let step = over_at entries settings single player place in Keeps player step.player
 over_at_song entries settings single player None = λ h. h
-over_at_song entries settings single player (Some place) = λ h. next_song settings.options.random _
-    (followed_by settings single entries player.played place.0 place.1)
+over_at_song entries settings single player (Some place) = λ h.
+    held_song (waits single settings.manners settings.options.repeat) _
+    (next_song settings.options.random _ (followed_by settings single entries player.played place.0 place.1))
 
 over_song : (entries : List Entry) (settings : PlaySettings) (single : Single) (player : PlayerState) →
     let step = over entries settings single player in Keeps player step.player
@@ -130,6 +163,18 @@ ended_song Pause entries settings player ticket = λ h. h
 ended_song Play entries settings player ticket =
     one_of_steps player (over entries settings settings.options.single player) (unchanged player) (player.ticket == ticket)
     (over_song entries settings settings.options.single player) (λ h. h)
+
+broken_song : (player : PlayerState) (ticket : ℕ) (cause : BrokenCause) (uri : List ℕ) → Keeps player (broken player ticket cause uri)
+broken_song player ticket cause uri =
+    one_of_two player (record player { state = Stop; error = Some (failure cause uri) }) player
+    (counts player.state player.ticket ticket) (λ h. refl) (λ h. h)
+
+failed_song : (entries : List Entry) (settings : PlaySettings) (player : PlayerState) (ticket : ℕ) (cause : BrokenCause)
+    (entry : Option Entry) → let step = failed_of entries settings player ticket cause entry in Keeps player step.player
+failed_song entries settings player ticket cause None = λ h. h
+failed_song entries settings player ticket cause (Some entry) =
+    one_of_steps player (passed entries settings player entry.uri) (unchanged (broken player ticket cause entry.uri))
+    (passes entries settings player ticket cause) (over_song entries settings Off player) (broken_song player ticket cause entry.uri)
 
 if_any_song : (random : Bool) (player : PlayerState) (choice : Choice) (id : Option ℕ) →
     let step = stepped_if_any random player choice id in Keeps player step.player
@@ -185,6 +230,8 @@ step_song (Seek selector song milliseconds) entries settings player =
 step_song Next entries settings player = next_one_song player.state player (over entries settings Off player)
     (over_song entries settings Off player)
 step_song (Ended ticket) entries settings player = ended_song player.state entries settings player ticket
+step_song (Failed ticket cause) entries settings player =
+    failed_song entries settings player ticket cause (current_entry entries player.current)
 
 moved_song : (made : Result Step PlayerError) (m : MachineState) → StepKeeps m.player made → KeepsSong m (moves made m)
 moved_song (Ok step) m keeps = keeps

@@ -1,21 +1,18 @@
 -- After any history a song is current in play and in pause.
 use Rattle.std.proofs.Common.{◌≡◌, ℕ, Bool, true, false, List, [], ◌∷◌, Option, Some, None, cond, Ok, refl, subst}
+use Rattle.command_text.specs.declared.tag_mask.TagMask.{TagMask}
 use Rattle.command_text.specs.declared.command.Command.{Command}
 use Rattle.machine_core.specs.Command.{meaning}
 use Rattle.machine_core.specs.Followed.{current_row}
 use Rattle.machine_core.specs.Happening.{Happening, nothing_happens}
 use Rattle.machine_core.specs.Meaning.{Meaning}
-use Rattle.machine_core.specs.Reports.{fed_in, broken_in}
+use Rattle.machine_core.specs.Reports.{fed_in}
 use Rattle.machine_core.specs.Scanning.{is_running, kept_changes, telling, finds, ends_scan}
 use Rattle.machine_core.specs.State.{MachineState, settings_of}
 use Rattle.machine_core.specs.Steps.{current_length, puts}
 use Rattle.machine_core.specs.declared.steps.PlayerStep.TheVariants as steps
-use Rattle.play_queue.specs.declared.entry.Entry.{Entry as QueueEntry}
-use Rattle.player_core.specs.Order.{current_entry}
 use Rattle.player_core.specs.Player.{PlayerState}
-use Rattle.player_core.specs.Reports.{counts, failure}
-use Rattle.player_core.specs.declared.failure.BrokenCause.{BrokenCause}
-use Rattle.player_core.specs.declared.playing.PlayState.TheVariants.{Stop}
+use Rattle.player_core.specs.Reports.{counts}
 use Rattle.song_db.specs.Row.{Row}
 use Rattle.song_db.specs.declared.change.RowChange.{RowChange}
 use Rattle.state_codec.specs.SavedState.{SavedState}
@@ -47,23 +44,17 @@ forms_song = record {
   turns = turn_song;
 }
 
-command_kept : (command : Command) (m : MachineState) (x : Meaning) → has_song m.player ≡ true → meaning command m ≡ Ok x →
+command_kept : (mask : TagMask) (command : Command) (m : MachineState) (x : Meaning) → has_song m.player ≡ true → meaning mask command m
+    ≡ Ok x →
     has_song x.after.player ≡ true
-command_kept command m x h means =
-    subst (KeepsSong m) means (command_so (λ n y. Keeps n.player y.after.player) forms_song command m) h
+command_kept mask command m x h means =
+    subst (KeepsSong m) means (command_so (λ n y. Keeps n.player y.after.player) forms_song mask command m) h
 
 -- the events
 fed_song : (row : Option Row) (ticket frames : ℕ) (player : PlayerState) → Keeps player (fed_in row ticket frames player)
 fed_song None ticket frames player = λ h. h
 fed_song (Some row) ticket frames player =
     one_of_two player _ player (counts player.state player.ticket ticket) (λ h. h) (λ h. h)
-
-broken_song : (entry : Option QueueEntry) (ticket : ℕ) (cause : BrokenCause) (player : PlayerState) →
-    Keeps player (broken_in entry ticket cause player)
-broken_song None ticket cause player = λ h. h
-broken_song (Some entry) ticket cause player =
-    one_of_two player (record player { state = Stop; error = Some (failure cause entry.uri) }) player
-    (counts player.state player.ticket ticket) (λ h. refl) (λ h. h)
 
 abbrev HappeningKeeps : MachineState → Happening → Type 0
 HappeningKeeps m happening = Keeps m.player happening.after.player
@@ -82,7 +73,7 @@ song_kept = record {
   command = command_kept;
   fed = λ ticket frames m. fed_song (current_row m.saved m.player) ticket frames m.player;
   ended = λ ticket m. moves_song (steps.Ended ticket) m;
-  broken = λ ticket cause m. broken_song (current_entry m.saved.queue.entries m.player.current) ticket cause m.player;
+  broken = λ ticket cause m. moves_song (steps.Failed ticket cause) m;
   found = λ job changes m. if_running m (finds (telling m.saved.songs (kept_changes m.saved.profile changes)) m) (is_running job m)
       (found_song (telling m.saved.songs (kept_changes m.saved.profile changes)) m);
   scanned = λ job m. if_running m (ends_scan m) (is_running job m) (λ h. h);

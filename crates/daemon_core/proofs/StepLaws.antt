@@ -23,12 +23,12 @@ use Rattle.daemon_core.proofs.RebuildLaws.{CommandsRebuild, step_rebuilds}
 pub is_outcome : (s : State) (event : Event) (p q : CoreParts) (handled : Handled) (outputs : Vec Output) →
     Does (acted s event handled.outcome.refused_at) p handled →
     outputs.items ≡ handled.outcome.outputs.items ++ map told_to (reports_of (marked p.watch handled.changed)) →
-    q.watch ≡ after_reports (marked p.watch handled.changed) → q.machine ≡ p.machine →
+    q.watch ≡ after_reports (marked p.watch handled.changed) → q.machine ≡ p.machine → q.masks ≡ p.masks →
     IfSome handled.outcome.refused_at (λ k. k < command_count event) →
     IsOutcome s event (record handled.outcome { outputs = outputs }) (state_of q)
 unfolding step
-is_outcome s event p q handled outputs does told watch machine place = record {
-  after = (λ i. record { machine = machine i; clients = watch i })
+is_outcome s event p q handled outputs does told watch machine masks place = record {
+  after = (λ i. record { machine = machine i; clients = watch i; masks = (let m = masks i in m.list.items) })
       ∙ (λ i. with_clients (does.state i) (after_reports (marked (let v = does.state i in v.clients) (does.changed i))));
   outputs = told ∙ (λ i. does.answer i ++ map told_to (reports_of (marked (let v = does.state i in v.clients) (does.changed i))));
   closes = does.closes;

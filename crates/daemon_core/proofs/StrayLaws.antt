@@ -14,7 +14,7 @@ use Rattle.command_text.specs.declared.request.Request.{Request}
 use Rattle.machine_core.specs.Changed.{changed, same_state, same_playing, same_job, same_options}
 use Rattle.machine_core.specs.Followed.{current_row}
 use Rattle.machine_core.specs.Happening.{nothing_happens}
-use Rattle.machine_core.specs.Reports.{when_fed, when_ended, when_broken, fed_in, broken_in, happens, player_happens}
+use Rattle.machine_core.specs.Reports.{when_fed, when_ended, when_broken, fed_in, happens, player_happens}
 use Rattle.machine_core.specs.Scanning.{is_running, finds, kept_changes, telling, ends_scan}
 use Rattle.machine_core.specs.State.{MachineState, settings_of}
 use Rattle.machine_core.specs.Steps.{steps}
@@ -24,8 +24,11 @@ use Rattle.play_queue.specs.declared.entry.Entry.{Entry as QueueEntry}
 use Rattle.player_core.specs.Ending.{ended_in, over}
 use Rattle.player_core.specs.Order.{current_entry}
 use Rattle.player_core.specs.Player.{PlayerState, Step, unchanged}
-use Rattle.player_core.specs.Reports.{counts, failure}
+use Rattle.player_core.specs.Reports.{broken, counts, failed_of, failure, is_through, passed, passes_by}
 use Rattle.player_core.specs.declared.failure.BrokenCause.{BrokenCause}
+use Rattle.player_core.specs.declared.failure.BrokenCause.TheVariants.{Source, Output}
+use Rattle.player_core.specs.declared.manners.Manners.{Manners}
+use Rattle.player_core.specs.declared.manners.Manners.TheVariants.{Named, Mpd}
 use Rattle.player_core.specs.declared.options.Options.{Options}
 use Rattle.player_core.specs.declared.options.Single.{Single}
 use Rattle.player_core.specs.declared.options.Single.TheVariants.{Off, On, Oneshot}
@@ -38,13 +41,14 @@ use Rattle.state_codec.specs.SavedState.{SavedState}
 use Rattle.daemon_core.specs.Quiet.{is_quiet}
 use Rattle.daemon_core.specs.Replay.{Entry, stepped, replay}
 use Rattle.daemon_core.specs.Session.{nothing, happened}
-use Rattle.daemon_core.specs.State.{State, with_clients}
+use Rattle.daemon_core.specs.State.{State, with_clients, with_masks}
 use Rattle.daemon_core.specs.Step.{Stepped, connects_client, requested_by, waiting_of, acted, settles, step}
 use Rattle.daemon_core.specs.Stray.{is_stop, is_late, is_over, is_stray, stays}
 use Rattle.daemon_core.specs.declared.event.Event.{Event}
 use Rattle.daemon_core.specs.declared.event.Event.TheVariants as events
 use Rattle.daemon_core.proofs.PendingLaws.{contains-set_of, set_ext}
 use Rattle.daemon_core.proofs.QuietLaws.{quiet}
+use Rattle.daemon_core.proofs.SeenLaws.{masks_absent}
 
 -- Where nobody waits for what is pending for it, an event that does nothing tells nobody.
 union-none : (s : Subsystems) → union s none ≡ s
@@ -155,12 +159,27 @@ late_fed (Some row) ticket frames player late =
     ap (λ b. cond b (record player { frame = min (player.frame + frames) row.frames }) player)
     (late_counts player.state player.ticket ticket late)
 
-late_broken : (entry : Option QueueEntry) (ticket : ℕ) (cause : BrokenCause) (player : PlayerState) → is_late ticket player ≡ true →
-    broken_in entry ticket cause player ≡ player
-late_broken None ticket cause player late = refl
-late_broken (Some entry) ticket cause player late =
-    ap (λ b. cond b (record player { state = Stop; error = Some (failure cause entry.uri) }) player)
+late_passes : (by : Manners) (cause : BrokenCause) (state : PlayState) (same through : Bool) → (is_stop state || not same) ≡ true →
+    (passes_by by cause state && (same && not through)) ≡ false
+late_passes Named cause state same through late = refl
+late_passes Mpd Output state same through late = refl
+late_passes Mpd Source Stop same through late = refl
+late_passes Mpd Source Play same through late = ap (λ b. b && not through) (not_false same late)
+late_passes Mpd Source Pause same through late = refl
+
+late_broken : (ticket : ℕ) (cause : BrokenCause) (uri : List ℕ) (player : PlayerState) → is_late ticket player ≡ true →
+    broken player ticket cause uri ≡ player
+late_broken ticket cause uri player late =
+    ap (λ b. cond b (record player { state = Stop; error = Some (failure cause uri) }) player)
     (late_counts player.state player.ticket ticket late)
+
+late_failed : (entry : Option QueueEntry) (entries : List QueueEntry) (settings : PlaySettings) (ticket : ℕ) (cause : BrokenCause)
+    (player : PlayerState) → is_late ticket player ≡ true → failed_of entries settings player ticket cause entry ≡ unchanged player
+late_failed None entries settings ticket cause player late = refl
+late_failed (Some entry) entries settings ticket cause player late =
+    ap (λ b. cond b (passed entries settings player entry.uri) (unchanged (broken player ticket cause entry.uri)))
+    (late_passes settings.manners cause player.state (player.ticket == ticket) (is_through entries settings player.failures) late)
+    ∙ ap unchanged (late_broken ticket cause entry.uri player late)
 
 late_ended : (state : PlayState) (entries : List QueueEntry) (settings : PlaySettings) (player : PlayerState) (ticket : ℕ) →
     (is_stop state || not (player.ticket == ticket)) ≡ true → ended_in state entries settings player ticket ≡ unchanged player
@@ -188,7 +207,8 @@ ended_late m ticket late =
 broken_late : (m : MachineState) (ticket : ℕ) (cause : BrokenCause) → is_late ticket m.player ≡ true →
     when_broken ticket cause m ≡ nothing_happens m
 broken_late m ticket cause late =
-    player_stays m _ (late_broken (current_entry m.saved.queue.entries m.player.current) ticket cause m.player late)
+    step_stays m _ (late_failed (current_entry m.saved.queue.entries m.player.current) m.saved.queue.entries (settings_of m.saved) ticket
+    cause m.player late)
 
 -- Events of a scan.
 over_runs : (runs same : Bool) → (not runs || not same) ≡ true → (runs && same) ≡ false
@@ -222,12 +242,14 @@ asked_by_none c refused s request (Some w) h = absurd (false≢true h)
 acted_stray : (s : State) (event : Event) (refused : Option ℕ) → is_stray s event ≡ true → acted s event refused ≡ nothing s
 acted_stray s (events.Connect c) refused h = connect_again c s (watched s.clients c) h
 acted_stray s (events.Request c request) refused h = asked_by_none c refused s request (watched s.clients c) h
-acted_stray s (events.Gone c) refused h = ap (λ ws. nothing (with_clients s ws)) (absent c s.clients h)
+acted_stray s (events.Gone c) refused h =
+    λ i. nothing (with_masks (with_clients s (absent c s.clients h i)) (masks_absent (watched s.clients c) s.masks c h i))
 acted_stray s (events.Fed ticket frames) refused h = ap (happened s) (fed_late s.machine ticket frames h)
 acted_stray s (events.Ended ticket) refused h = ap (happened s) (ended_late s.machine ticket h)
 acted_stray s (events.Broken ticket cause) refused h = ap (happened s) (broken_late s.machine ticket cause h)
 acted_stray s (events.Batch job changes) refused h =
-    ap (λ b. happened s (cond b (finds (telling s.machine.saved.songs (kept_changes s.machine.saved.profile changes)) s.machine) (nothing_happens s.machine)))
+    ap (λ b. happened s (cond b (finds (telling s.machine.saved.songs (kept_changes s.machine.saved.profile changes)) s.machine)
+    (nothing_happens s.machine)))
     (not_running job s.machine h)
 acted_stray s (events.ScanDone job) refused h =
     ap (λ b. happened s (cond b (ends_scan s.machine) (nothing_happens s.machine))) (not_running job s.machine h)

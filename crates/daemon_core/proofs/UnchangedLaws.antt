@@ -3,6 +3,7 @@ use Rattle.std.proofs.Common.{◌≡◌, ℕ, suc, ◌+◌, ◌↔◌, Bool, tru
 use Rattle.std.proofs.Common.{refl, sym, subst, ◌∙◌, ap}
 use Rattle.std.specs.Prelude.{Result, Ok, Err, nat_le}
 use Rattle.std.proofs.lemmas.Bool.{false≢true}
+use Rattle.command_text.specs.declared.tag_mask.TagMask.{TagMask}
 use Rattle.command_text.specs.Answer.{list_ok}
 use Rattle.command_text.specs.Reading.{line_reading}
 use Rattle.command_text.specs.declared.command.Command.{Command}
@@ -21,7 +22,8 @@ use Rattle.machine_core.specs.Command.{meaning}
 use Rattle.machine_core.specs.Looks.{looks_of, max_looks}
 use Rattle.machine_core.specs.Happening.{Happening, nothing_happens}
 use Rattle.machine_core.specs.Meaning.{Meaning, Meant}
-use Rattle.machine_core.specs.Reports.{when_ended}
+use Rattle.player_core.specs.declared.failure.BrokenCause.{BrokenCause}
+use Rattle.machine_core.specs.Reports.{when_broken, when_ended}
 use Rattle.machine_core.specs.Scanning.{ends_scan, finds, is_running, kept_changes, telling, when_found, when_scanned}
 use Rattle.machine_core.specs.Size.{max_request_bytes, within}
 use Rattle.machine_core.specs.State.{MachineState}
@@ -33,6 +35,7 @@ use Rattle.daemon_core.specs.Run.{Did, Goes, Refuses, Ends, ending_of, did_of, u
 use Rattle.daemon_core.specs.Run.{Ran, wants_memory, follow, is_refused_at, ran}
 use Rattle.daemon_core.specs.Run.{Spent, spent_behind, unspent}
 use Rattle.daemon_core.specs.Session.{of_ran, runs}
+use Rattle.daemon_core.specs.Seen.{tags_seen}
 use Rattle.daemon_core.specs.State.{State}
 use Rattle.daemon_core.specs.Step.{connects_client, asked, waits_no_more, is_noidle, requested_by, waiting_of, acted, step}
 use Rattle.daemon_core.specs.Unchanged.{CommandLeaves, CommandsLeave, RequestLeaves, AskedLeaves, LeavesSaved}
@@ -43,12 +46,17 @@ use Rattle.daemon_core.specs.declared.outcome.Ending.TheVariants.{Answered, Clos
 
 -- what is known of a command, of the end of a song, and of a batch
 pub record MachineTells : Type 0 where
-  pub none : (command : Command) (m : MachineState) (x : Meaning) → IsSavedState m.saved → meaning command m ≡ Ok x
+  pub none : (mask : TagMask) (command : Command) (m : MachineState) (x : Meaning) → IsSavedState m.saved → meaning mask command m ≡ Ok x
       → x.after.saved ≡ m.saved → x.ops ≡ []
-  pub same : (command : Command) (m : MachineState) (x : Meaning) → meaning command m ≡ Ok x → x.ops ≡ [] → x.after.saved ≡ m.saved
+  pub same : (mask : TagMask) (command : Command) (m : MachineState) (x : Meaning) → meaning mask command m ≡ Ok x → x.ops ≡ []
+      → x.after.saved ≡ m.saved
   pub ended_none : (ticket : ℕ) (m : MachineState) → IsSavedState m.saved
       → (when_ended ticket m).after.saved ≡ m.saved → (when_ended ticket m).ops ≡ []
   pub ended_same : (ticket : ℕ) (m : MachineState) → (when_ended ticket m).ops ≡ [] → (when_ended ticket m).after.saved ≡ m.saved
+  pub broken_none : (ticket : ℕ) (cause : BrokenCause) (m : MachineState) → IsSavedState m.saved
+      → (when_broken ticket cause m).after.saved ≡ m.saved → (when_broken ticket cause m).ops ≡ []
+  pub broken_same : (ticket : ℕ) (cause : BrokenCause) (m : MachineState) → (when_broken ticket cause m).ops ≡ []
+      → (when_broken ticket cause m).after.saved ≡ m.saved
   pub found : (job : ℕ) (changes : List RowChange) (m : MachineState) → is_running job m ≡ true
       → ((when_found job changes m).ops ≡ [] ↔ telling m.saved.songs (kept_changes m.saved.profile changes) ≡ [])
 
@@ -74,16 +82,17 @@ within_tells : (m : MachineState) (name : CommandName) (x : Meaning) (fits : Boo
 within_tells m name x true tells = tells
 within_tells m name x false tells = tt
 
-did_tells : (known : MachineTells) (size : ℕ) (m : MachineState) (name : CommandName) (command : Command) (meant : Meant) →
-    meaning command m ≡ meant → DidTells m (did_of name (within m.saved.profile size meant))
-did_tells known size m name command (Err refusal) is = tt
-did_tells known size m name command (Ok x) is =
+did_tells : (known : MachineTells) (mask : TagMask) (size : ℕ) (m : MachineState) (name : CommandName) (command : Command) (meant : Meant) →
+    meaning mask command m ≡ meant → DidTells m (did_of name (within m.saved.profile size meant))
+did_tells known mask size m name command (Err refusal) is = tt
+did_tells known mask size m name command (Ok x) is =
     within_tells m name x (nat_le (size + length (ops_bytes m.saved.profile x.ops)) max_request_bytes)
-    (record { none = λ saved leaves. known.none command m x saved is leaves; same = λ empty. known.same command m x is empty })
+    (record { none = λ saved leaves. known.none mask command m x saved is leaves; same = λ empty. known.same mask command m x is empty })
 
 -- one that would look at too much is refused before it does anything
 weighed_tells : (size : ℕ) (m : MachineState) (name : CommandName) (meant : Meant) (fits : Bool) →
-    DidTells m (did_of name (within m.saved.profile size meant)) → DidTells m (did_of name (within m.saved.profile size (cond fits meant (Err RequestTooLarge))))
+    DidTells m (did_of name (within m.saved.profile size meant)) → DidTells m (did_of name (within m.saved.profile size (cond fits meant
+    (Err RequestTooLarge))))
 weighed_tells size m name meant true tells = tells
 weighed_tells size m name meant false tells = tt
 
@@ -95,8 +104,8 @@ performed_tells : (known : MachineTells) (spent : Spent) (named : NamedCommand) 
 unfolding performed
 performed_tells known spent named m =
     unless_tells m (ending_of named.command) _
-    (weighed_tells spent.size m named.name (meaning named.command m) (nat_le (spent.looks + looks_of named.command m) max_looks)
-    (did_tells known spent.size m named.name named.command (meaning named.command m) refl))
+    (weighed_tells spent.size m named.name (meaning spent.tags named.command m) (nat_le (spent.looks + looks_of named.command m) max_looks)
+    (did_tells known spent.tags spent.size m named.name named.command (meaning spent.tags named.command m) refl))
 
 read_tells : (known : MachineTells) (spent : Spent) (m : MachineState) (read : Result NamedCommand Refusal) →
     DidTells m (read_and_performed spent m read)
@@ -128,11 +137,12 @@ follow_tells separator index behind m rest Rest (Goes x) tells later =
 follow_tells separator index behind m rest Rest (Refuses refusal) tells later = silent m
 follow_tells separator index behind m rest Rest (Ends ending) tells later = silent m
 
-here_tells : (m : MachineState) (index : ℕ) (line : List ℕ) (r : Ran) (Leaves : Type 0) (here : Bool) → Tells Leaves m r.ops →
-    let either = cond here (wants_memory m index line) r in Tells (here ≡ false → Leaves) m either.ops
-here_tells m index line r Leaves true tells =
+here_tells : (spent : Spent) (m : MachineState) (index : ℕ) (line : List ℕ) (r : Ran) (Leaves : Type 0) (here : Bool)
+    → Tells Leaves m r.ops →
+    let either = cond here (wants_memory m spent index line) r in Tells (here ≡ false → Leaves) m either.ops
+here_tells spent m index line r Leaves true tells =
     record { none = λ saved leaves. refl; same = λ empty not. absurd (false≢true (sym not)) }
-here_tells m index line r Leaves false tells =
+here_tells spent m index line r Leaves false tells =
     record { none = λ saved leaves. tells.none saved (leaves refl); same = λ empty not. tells.same empty }
 
 ran_tells : (known : MachineTells) (place : Place) (separator : List ℕ) (refused : Option ℕ) (index : ℕ) (spent : Spent)
@@ -141,7 +151,7 @@ ran_tells : (known : MachineTells) (place : Place) (separator : List ℕ) (refus
 unfolding ran CommandsLeave
 ran_tells known place separator refused index spent [] m = silent m
 ran_tells known place separator refused index spent (line ∷ lines) m =
-    here_tells m index line _ _ (is_refused_at refused index)
+    here_tells spent m index line _ _ (is_refused_at refused index)
     (follow_tells separator index (spent_behind place line m spent) m (λ n t. ran place separator refused (suc index) n lines t)
     (λ n t. CommandsLeave place refused (suc index) n lines t) (attempted place spent line m)
     (attempted_tells known place spent line m)
@@ -160,13 +170,14 @@ runs_tells : (c : ℕ) (s : State) (r : Ran) (Leaves : Type 0) → Tells Leaves 
 runs_tells c s r Leaves tells = of_ran_tells c s r r.ending Leaves tells
 
 asked_tells : (known : MachineTells) (c : ℕ) (refused : Option ℕ) (s : State) (request : Request) →
-    let a = asked c refused s request in Tells (RequestLeaves refused s.machine request) s.machine a.ops
+    let a = asked c refused s request in Tells (RequestLeaves refused (unspent s.machine (tags_seen s.masks c)) s.machine request)
+    s.machine a.ops
 asked_tells known c refused s (Single line) =
-    runs_tells c s _ _ (ran_tells known Alone [] refused 0 (unspent s.machine) (line ∷ []) s.machine)
+    runs_tells c s _ _ (ran_tells known Alone [] refused 0 (unspent s.machine (tags_seen s.masks c)) (line ∷ []) s.machine)
 asked_tells known c refused s (CommandList lines) =
-    runs_tells c s _ _ (ran_tells known InList [] refused 0 (unspent s.machine) lines s.machine)
+    runs_tells c s _ _ (ran_tells known InList [] refused 0 (unspent s.machine (tags_seen s.masks c)) lines s.machine)
 asked_tells known c refused s (OkList lines) =
-    runs_tells c s _ _ (ran_tells known InList list_ok refused 0 (unspent s.machine) lines s.machine)
+    runs_tells c s _ _ (ran_tells known InList list_ok refused 0 (unspent s.machine (tags_seen s.masks c)) lines s.machine)
 asked_tells known c refused s Noidle = silent s.machine
 
 waiting_tells : (noidle : Bool) (c : ℕ) (s : State) → let a = waits_no_more noidle c s in Tells (Unit {0}) s.machine a.ops
@@ -175,7 +186,8 @@ waiting_tells false c s = silent s.machine
 
 requested_tells : (known : MachineTells) (c : ℕ) (refused : Option ℕ) (s : State) (request : Request)
     (found : Option (Option Subsystems)) →
-    let a = requested_by c refused s request found in Tells (AskedLeaves refused s.machine request found) s.machine a.ops
+    let a = requested_by c refused s request found in Tells (AskedLeaves refused (unspent s.machine
+    (tags_seen s.masks c)) s.machine request found) s.machine a.ops
 requested_tells known c refused s request None = silent s.machine
 requested_tells known c refused s request (Some None) = asked_tells known c refused s request
 requested_tells known c refused s request (Some (Some mask)) = waiting_tells (is_noidle request) c s
@@ -186,7 +198,8 @@ connect_tells c s None = silent s.machine
 connect_tells c s (Some w) = silent s.machine
 
 found_tells : (known : MachineTells) (job : ℕ) (changes : List RowChange) (m : MachineState) →
-    let h = when_found job changes m in Tells (is_running job m ≡ true → telling m.saved.songs (kept_changes m.saved.profile changes) ≡ []) m h.ops
+    let h = when_found job changes m in Tells (is_running job m ≡ true → telling m.saved.songs (kept_changes m.saved.profile changes)
+    ≡ []) m h.ops
 found_tells known job changes m = record {
   none = λ saved leaves. of (is_running job m) refl leaves;
   same = λ empty runs. (known.found job changes m runs).0 empty;
@@ -196,7 +209,8 @@ found_tells known job changes m = record {
         let h = when_found job changes m in h.ops ≡ []
     of true runs leaves = (known.found job changes m runs).1 (leaves runs)
     of false runs leaves =
-        ap (λ (b : Bool). let h : Happening = cond b (finds (telling m.saved.songs (kept_changes m.saved.profile changes)) m) (nothing_happens m) in h.ops) runs
+        ap (λ (b : Bool). let h : Happening = cond b (finds (telling m.saved.songs (kept_changes m.saved.profile changes)) m)
+        (nothing_happens m) in h.ops) runs
 
 scanned_tells : (job : ℕ) (m : MachineState) → let h = when_scanned job m in Tells (Unit {0}) m h.ops
 scanned_tells job m = of (is_running job m)
@@ -214,7 +228,8 @@ acted_tells known s (events.Gone c) refused = silent s.machine
 acted_tells known s (events.Fed ticket frames) refused = silent s.machine
 acted_tells known s (events.Ended ticket) refused =
     record { none = known.ended_none ticket s.machine; same = known.ended_same ticket s.machine }
-acted_tells known s (events.Broken ticket cause) refused = silent s.machine
+acted_tells known s (events.Broken ticket cause) refused =
+    record { none = known.broken_none ticket cause s.machine; same = known.broken_same ticket cause s.machine }
 acted_tells known s (events.Batch job changes) refused = found_tells known job changes s.machine
 acted_tells known s (events.ScanDone job) refused = scanned_tells job s.machine
 

@@ -16,6 +16,7 @@ use Rattle.idle_masks.specs.declared.subsystem.Subsystems.{Subsystems}
 use Rattle.machine_core.specs.Meaning.{Meaning}
 use Rattle.machine_core.specs.State.{MachineState}
 use Rattle.daemon_core.specs.Run.{Did, Goes, Refuses, Ends, attempted, is_refused_at, Spent, spent_behind, unspent}
+use Rattle.daemon_core.specs.Seen.{tags_seen}
 use Rattle.daemon_core.specs.State.{State}
 use Rattle.daemon_core.specs.Step.{waiting_of}
 use Rattle.daemon_core.specs.declared.event.Event.{Event}
@@ -48,17 +49,17 @@ comes_to_kill place refused index spent (line ∷ lines) m =
     || goes_on (attempted place spent line m) (λ x.
     comes_to_kill place refused (suc index) (spent_behind place line m spent x.ops) lines x.after))
 
-abbrev pub request_kills : Option ℕ → MachineState → Request → Bool
-request_kills refused m (Single line) = comes_to_kill Alone refused 0 (unspent m) (line ∷ []) m
-request_kills refused m (CommandList lines) = comes_to_kill InList refused 0 (unspent m) lines m
-request_kills refused m (OkList lines) = comes_to_kill InList refused 0 (unspent m) lines m
-request_kills refused m Noidle = false
+abbrev pub request_kills : Option ℕ → Spent → MachineState → Request → Bool
+request_kills refused spent m (Single line) = comes_to_kill Alone refused 0 spent (line ∷ []) m
+request_kills refused spent m (CommandList lines) = comes_to_kill InList refused 0 spent lines m
+request_kills refused spent m (OkList lines) = comes_to_kill InList refused 0 spent lines m
+request_kills refused spent m Noidle = false
 
 -- a client that is connected and doesn't wait asks so
-abbrev pub asks_to_kill : Option ℕ → State → Request → Option (Option Subsystems) → Bool
-asks_to_kill refused s request (Some None) = request_kills refused s.machine request
-asks_to_kill refused s request found = false
+abbrev pub asks_to_kill : ℕ → Option ℕ → State → Request → Option (Option Subsystems) → Bool
+asks_to_kill c refused s request (Some None) = request_kills refused (unspent s.machine (tags_seen s.masks c)) s.machine request
+asks_to_kill c refused s request found = false
 
 abbrev pub ends_daemon : State → Event → Option ℕ → Bool
-ends_daemon s (events.Request c request) refused = asks_to_kill refused s request (waiting_of (watched s.clients c))
+ends_daemon s (events.Request c request) refused = asks_to_kill c refused s request (waiting_of (watched s.clients c))
 ends_daemon s event refused = false

@@ -1,3 +1,4 @@
+pub mod Seen
 pub mod State
 pub mod Run
 pub mod Session

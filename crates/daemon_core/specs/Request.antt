@@ -5,6 +5,7 @@ use Rattle.command_text.specs.Reading.{name_of_line, want_of_memory}
 use Rattle.command_text.specs.declared.place.Place.{Place}
 use Rattle.command_text.specs.declared.refusal.ReadError.{ReadError}
 use Rattle.command_text.specs.declared.refusal.ReadError.TheVariants as errors
+use Rattle.command_text.specs.declared.tag_mask.TagMask.{TagMask}
 use Rattle.idle_masks.specs.declared.subsystem.Subsystems.{Subsystems}
 use Rattle.machine_core.specs.Changed.{changed}
 use Rattle.machine_core.specs.Looks.{max_looks}
@@ -36,6 +37,7 @@ ran_of m work end = record {
   ending = end.ending;
   refused_at = end.refused_at;
   looks = end.looks;
+  tags = end.tags;
 }
 
 -- the command did what it means: its lines, the separator and its ops were added, and there is room for what ends a request
@@ -71,6 +73,18 @@ CountsLooks all looks (Err (stops.Ends ending)) = looks ≡ all
 CountsLooks all looks (Err (stops.Refused refusal)) = looks ≡ all
 CountsLooks all looks (Err stops.NoMemory) = Unit {0}
 
+-- The client sees these tags behind a command. Nothing is said where it found no memory.
+abbrev pub SeesTags : TagMask → TagMask → Result Subsystems Stop → Type 0
+SeesTags all tags (Ok set) = tags ≡ all
+SeesTags all tags (Err (stops.Ends ending)) = tags ≡ all
+SeesTags all tags (Err (stops.Refused refusal)) = tags ≡ all
+SeesTags all tags (Err stops.NoMemory) = Unit {0}
+
+-- the tags that the client sees behind a request that ended at a command: those before it where memory was refused
+abbrev pub tags_at_end : Option ℕ → TagMask → TagMask → TagMask
+tags_at_end None before behind = behind
+tags_at_end (Some place) before behind = before
+
 -- how much a request looked at that ended at a command: all that it may where memory was refused
 abbrev pub looks_at_end : Option ℕ → ℕ → ℕ
 looks_at_end None looks = looks
@@ -92,13 +106,15 @@ AnswersStop profile stop index line (Some place) ending work done = (place ≡ i
 
 -- the commands were run as the request means them, with memory refused where its end says, at one of them or at none
 pub record RunsLines
-    (place : Place) (between : List ℕ) (lines : List (List ℕ)) (before after : MachineState) (work done : Work) (end : RequestEnd)
+    (place : Place) (between : List ℕ) (tags : TagMask) (lines : List (List ℕ)) (before after : MachineState) (work done : Work)
+    (end : RequestEnd)
     : Type 0 where
-  pub stands : after ≡ (ran place between end.refused_at 0 (spent_of work.size 0) lines before).after
-  pub text : done.text.items ≡ work.text.items ++ (ran place between end.refused_at 0 (spent_of work.size 0) lines before).text
-  pub ops : done.ops.items ≡ work.ops.items ++ (ran place between end.refused_at 0 (spent_of work.size 0) lines before).ops
-  pub changed : end.changed ≡ (ran place between end.refused_at 0 (spent_of work.size 0) lines before).changed
-  pub ending : end.ending ≡ (ran place between end.refused_at 0 (spent_of work.size 0) lines before).ending
-  pub refused_at : end.refused_at ≡ (ran place between end.refused_at 0 (spent_of work.size 0) lines before).refused_at
-  pub looks : end.looks ≡ (ran place between end.refused_at 0 (spent_of work.size 0) lines before).looks
+  pub stands : after ≡ (ran place between end.refused_at 0 (spent_of work.size 0 tags) lines before).after
+  pub text : done.text.items ≡ work.text.items ++ (ran place between end.refused_at 0 (spent_of work.size 0 tags) lines before).text
+  pub ops : done.ops.items ≡ work.ops.items ++ (ran place between end.refused_at 0 (spent_of work.size 0 tags) lines before).ops
+  pub changed : end.changed ≡ (ran place between end.refused_at 0 (spent_of work.size 0 tags) lines before).changed
+  pub ending : end.ending ≡ (ran place between end.refused_at 0 (spent_of work.size 0 tags) lines before).ending
+  pub refused_at : end.refused_at ≡ (ran place between end.refused_at 0 (spent_of work.size 0 tags) lines before).refused_at
+  pub looks : end.looks ≡ (ran place between end.refused_at 0 (spent_of work.size 0 tags) lines before).looks
+  pub sees : end.tags ≡ (ran place between end.refused_at 0 (spent_of work.size 0 tags) lines before).tags
   pub within : IfSome end.refused_at (λ place. place < length lines)

@@ -14,6 +14,10 @@ use Rattle.command_text.specs.declared.name.CommandName.{CommandName}
 use Rattle.command_text.specs.declared.place.Place.{Place}
 use Rattle.command_text.specs.declared.refusal.Refusal.{Refusal}
 use Rattle.command_text.specs.declared.refusal.Refusal.TheVariants.{OfCommand}
+use Rattle.command_text.specs.declared.tag_mask.TagMask.{TagMask}
+use Rattle.command_text.specs.declared.command.database.DatabaseCommand.{DatabaseCommand}
+use Rattle.command_text.specs.declared.command.database.DatabaseCommand.TheVariants as database
+use Rattle.command_text.specs.Masks.{after_change}
 use Rattle.idle_masks.specs.Subsystems.{none, union}
 use Rattle.idle_masks.specs.declared.subsystem.Subsystems.{Subsystems}
 use Rattle.machine_core.specs.Changed.{changed}
@@ -57,21 +61,32 @@ abbrev pub unless_it_ends : Option Ending → Did → Did
 unless_it_ends None did = did
 unless_it_ends (Some ending) did = Ends ending
 
--- what the commands of a request have spent so far of what it may: the bytes of a record of their ops, and how much they have looked at
+-- What the commands of a request hand on to the next one: what they have spent of what it may, the bytes of a record of their ops, and how
+-- much they have looked at; and the tags that the client sees.
 pub record Spent : Type 0 where
   pub size : ℕ
   pub looks : ℕ
+  pub tags : TagMask
 
-abbrev pub spent_of : ℕ → ℕ → Spent
-spent_of size looks = record { size = size; looks = looks }
+abbrev pub spent_of : ℕ → ℕ → TagMask → Spent
+spent_of size looks tags = record { size = size; looks = looks; tags = tags }
 
 -- the record of a request begins with what stands behind its ops
-abbrev pub unspent : MachineState → Spent
-unspent m = spent_of (checksum_len m.saved.profile) 0
+abbrev pub unspent : MachineState → TagMask → Spent
+unspent m tags = spent_of (checksum_len m.saved.profile) 0 tags
+
+abbrev pub database_tags : DatabaseCommand → TagMask → TagMask
+database_tags (database.ChangeMask change) tags = after_change change tags
+database_tags other tags = tags
+
+-- the tags that the client sees behind a command
+unfoldable pub tags_behind : Command → TagMask → TagMask
+tags_behind (commands.Database command) tags = database_tags command tags
+tags_behind command tags = tags
 
 -- what a command means, within what is left of both
 abbrev pub within_both : Spent → Command → MachineState → Meant
-within_both spent command m = within m.saved.profile spent.size (weighed spent.looks (looks_of command m) (meaning command m))
+within_both spent command m = within m.saved.profile spent.size (weighed spent.looks (looks_of command m) (meaning spent.tags command m))
 
 -- what a command does, where those before it have spent so much
 unfoldable pub performed : Spent → NamedCommand → MachineState → Did
@@ -93,14 +108,23 @@ looks_read (Ok named) m = looks_of named.command m
 unfoldable pub looks_of_line : Place → List ℕ → MachineState → ℕ
 looks_of_line place line m = looks_read (line_reading m.saved.profile place line) m
 
+abbrev pub tags_read : Result NamedCommand Refusal → TagMask → TagMask
+tags_read (Err refusal) tags = tags
+tags_read (Ok named) tags = tags_behind named.command tags
+
+-- the tags that the client sees behind the command of a line
+unfoldable pub tags_of_line : Place → List ℕ → MachineState → TagMask → TagMask
+tags_of_line place line m tags = tags_read (line_reading m.saved.profile place line) tags
+
 -- what is spent behind the command of a line, which makes these ops
 abbrev pub spent_behind : Place → List ℕ → MachineState → Spent → List Op → Spent
 spent_behind place line m spent ops =
     spent_of (spent.size + length (ops_bytes m.saved.profile ops)) (looked spent.looks (looks_of_line place line m))
+    (tags_of_line place line m spent.tags)
 
 -- What a request did: the machine after it, its answer, the subsystems that one of its commands changed, its ops in order, how
--- it ended, the place of the command that it reached and that was refused memory, if there was one, and how much its commands looked at,
--- that at which it ended too.
+-- it ended, the place of the command that it reached and that was refused memory, if there was one, how much its commands looked at, that
+-- at which it ended too, and the tags that its client sees behind it.
 pub record Ran : Type 0 where
   pub after : MachineState
   pub text : List ℕ
@@ -109,17 +133,29 @@ pub record Ran : Type 0 where
   pub ending : Ending
   pub refused_at : Option ℕ
   pub looks : ℕ
+  pub tags : TagMask
 
--- it ends here, where so much was looked at, with this text
-abbrev pub ends : MachineState → ℕ → List ℕ → Ending → Ran
-ends m looks text ending =
-    record { after = m; text = text; changed = none; ops = []; ending = ending; refused_at = None; looks = looks }
+-- it ends here, where so much was spent, with this text
+abbrev pub ends : MachineState → Spent → List ℕ → Ending → Ran
+ends m spent text ending = record {
+  after = m;
+  text = text;
+  changed = none;
+  ops = [];
+  ending = ending;
+  refused_at = None;
+  looks = spent.looks;
+  tags = spent.tags;
+}
 
 -- It ends here, since the command of this line, in this place, was refused memory: how much it had looked at by then isn't told, and it
 -- counts as all that a request may look at.
-abbrev pub wants_memory : MachineState → ℕ → List ℕ → Ran
-wants_memory m index line =
-    record (ends m max_looks (ack index (want_of_memory (name_of_line m.saved.profile line))) Answered) { refused_at = Some index }
+abbrev pub wants_memory : MachineState → Spent → ℕ → List ℕ → Ran
+wants_memory m spent index line =
+    record (ends m spent (ack index (want_of_memory (name_of_line m.saved.profile line))) Answered) {
+      refused_at = Some index;
+      looks = max_looks;
+    }
 
 -- a command that went well, before the rest of the request
 abbrev pub preceded : List ℕ → Subsystems → List Op → Ran → Ran
@@ -131,6 +167,7 @@ preceded text changes ops rest = record {
   ending = rest.ending;
   refused_at = rest.refused_at;
   looks = rest.looks;
+  tags = rest.tags;
 }
 
 -- memory was refused at this command
@@ -147,15 +184,15 @@ separator true = list_ok
 abbrev pub follow : List ℕ → ℕ → (List Op → Spent) → MachineState → (Spent → MachineState → Ran) → Did → Ran
 follow separator index behind m rest (Goes x) =
     preceded (x.text ++ separator) (changed m x.after) x.ops (rest (behind x.ops) x.after)
-follow separator index behind m rest (Refuses refusal) = ends m (behind []).looks (ack index refusal) Answered
-follow separator index behind m rest (Ends ending) = ends m (behind []).looks [] ending
+follow separator index behind m rest (Refuses refusal) = ends m (behind []) (ack index refusal) Answered
+follow separator index behind m rest (Ends ending) = ends m (behind []) [] ending
 
 -- The commands from this index on, where those before have spent so much, and memory is refused at one command or at none.
 -- Each command that goes well adds its lines and the separator; the first that doesn't ends the request, and what ran before it stays.
 unfoldable pub ran : Place → List ℕ → Option ℕ → ℕ → Spent → List (List ℕ) → MachineState → Ran
-ran place separator refused index spent [] m = ends m spent.looks ok Answered
+ran place separator refused index spent [] m = ends m spent ok Answered
 ran place separator refused index spent (line ∷ lines) m =
-    if is_refused_at refused index then wants_memory m index line
+    if is_refused_at refused index then wants_memory m spent index line
     else follow separator index (spent_behind place line m spent) m
     (λ spent after. ran place separator refused (suc index) spent lines after)
     (attempted place spent line m)

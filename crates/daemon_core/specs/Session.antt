@@ -1,13 +1,15 @@
 -- The commands that speak of the client: how a request ends for it.
 use Rattle.std.specs.Prelude.{ℕ, List, [], ◌∷◌, map, Bool, true, false, Option, Some, None}
 use Rattle.idle_masks.specs.Subsystems.{none}
-use Rattle.idle_masks.specs.Watched.{left, with_waiting}
+use Rattle.idle_masks.specs.Watched.{left, watched, with_waiting}
 use Rattle.idle_masks.specs.declared.subsystem.Subsystems.{Subsystems}
 use Rattle.idle_masks.specs.declared.watch.Watched.{Watched}
 use Rattle.machine_core.specs.Happening.{Happening}
 use Rattle.state_codec.specs.declared.op.Op.{Op}
+use Rattle.command_text.specs.declared.tag_mask.TagMask.{TagMask}
 use Rattle.daemon_core.specs.Run.{Ran}
-use Rattle.daemon_core.specs.State.{State, with_machine, with_clients}
+use Rattle.daemon_core.specs.Seen.{masked, masks_without}
+use Rattle.daemon_core.specs.State.{State, with_machine, with_clients, with_masks}
 use Rattle.daemon_core.specs.declared.outcome.Ending.{Ending}
 use Rattle.daemon_core.specs.declared.outcome.Ending.TheVariants.{Answered, Closed, Killed, Waits}
 use Rattle.daemon_core.specs.declared.outcome.Output.{Output}
@@ -40,7 +42,15 @@ output c text = record { client = c; bytes = text }
 
 -- the client is connected no more
 abbrev pub without : ℕ → State → State
-without c s = with_clients s (left s.clients c)
+without c s = with_masks (with_clients s (left s.clients c)) (masks_without (watched s.clients c) s.masks c)
+
+-- nobody is
+abbrev pub without_all : State → State
+without_all s = with_masks (with_clients s []) []
+
+-- the client sees these tags
+abbrev pub seeing : ℕ → TagMask → State → State
+seeing c tags s = with_masks s (masked s.masks c tags)
 
 -- the client waits for these subsystems, or no longer
 abbrev pub waiting : ℕ → Option Subsystems → State → State
@@ -56,10 +66,10 @@ ran_silently s r =
 
 -- What comes of a request of this client, by how it ended. A client that waits is answered where the changes are told.
 abbrev pub of_ran : ℕ → State → Ran → Ending → Acted
-of_ran c s r Answered = record (ran_silently s r) { answer = output c r.text ∷ [] }
+of_ran c s r Answered = record (ran_silently (seeing c r.tags s) r) { answer = output c r.text ∷ [] }
 of_ran c s r Closed = record (ran_silently (without c s) r) { closes = c ∷ [] }
-of_ran c s r Killed = record (ran_silently (with_clients s []) r) { closes = numbers_of s.clients; ended = true }
-of_ran c s r (Waits mask) = ran_silently (waiting c (Some mask) s) r
+of_ran c s r Killed = record (ran_silently (without_all s) r) { closes = numbers_of s.clients; ended = true }
+of_ran c s r (Waits mask) = ran_silently (seeing c r.tags (waiting c (Some mask) s)) r
 
 abbrev pub runs : ℕ → State → Ran → Acted
 runs c s r = of_ran c s r r.ending

@@ -3,18 +3,24 @@ use Rattle.std.specs.Prelude.{List, []}
 use Rattle.idle_masks.specs.declared.watch.Watched.{Watched}
 use Rattle.machine_core.specs.State.{MachineState, started}
 use Rattle.state_codec.specs.SavedState.{SavedState}
+use Rattle.daemon_core.specs.declared.masks.ClientMask.{ClientMask}
 
--- the connected clients, by rising number: for each what is pending and, if it waits, for what
+-- The connected clients, by rising number: for each what is pending and, if it waits, for what; and of those that don't see all tags which
+-- they see.
 pub record State : Type 0 where
   pub machine : MachineState
   pub clients : List Watched
+  pub masks : List ClientMask
 
 -- the state of a daemon that has just begun with what was kept
 abbrev pub start : SavedState → State
-start saved = record { machine = started saved; clients = [] }
+start saved = record { machine = started saved; clients = []; masks = [] }
 
 abbrev pub with_machine : State → MachineState → State
 with_machine s machine = record s { machine = machine }
+
+abbrev pub with_masks : State → List ClientMask → State
+with_masks s masks = record s { masks = masks }
 
 abbrev pub with_clients : State → List Watched → State
 with_clients s clients = record s { clients = clients }

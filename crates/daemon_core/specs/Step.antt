@@ -18,7 +18,8 @@ use Rattle.state_codec.specs.declared.op.Op.{Op}
 use Rattle.daemon_core.specs.Pending.{Moment}
 use Rattle.daemon_core.specs.Run.{ran, unspent}
 use Rattle.daemon_core.specs.Session.{Acted, nothing, happened, output, without, waiting, runs}
-use Rattle.daemon_core.specs.State.{State, with_clients}
+use Rattle.daemon_core.specs.Seen.{tags_seen, unmasked}
+use Rattle.daemon_core.specs.State.{State, with_clients, with_masks}
 use Rattle.daemon_core.specs.declared.event.Event.{Event}
 use Rattle.daemon_core.specs.declared.event.Event.TheVariants as events
 use Rattle.daemon_core.specs.declared.outcome.Output.{Output}
@@ -27,13 +28,17 @@ use Rattle.daemon_core.specs.declared.outcome.Output.{Output}
 abbrev pub connects_client : ℕ → State → Option Watched → Acted
 connects_client c s (Some w) = nothing s
 connects_client c s None =
-    record (nothing (with_clients s (joined s.clients c))) { answer = output c greeting ∷ []; connected = Some c }
+    record (nothing (with_masks (with_clients s (joined s.clients c)) (unmasked s.masks c))) {
+      answer = output c greeting ∷ [];
+      connected
+          = Some c;
+    }
 
 -- A client that does not wait: `noidle` is nothing to it, a line is a request of one command, a list one of several.
 abbrev pub asked : ℕ → Option ℕ → State → Request → Acted
-asked c refused s (Single line) = runs c s (ran Alone [] refused 0 (unspent s.machine) (line ∷ []) s.machine)
-asked c refused s (CommandList lines) = runs c s (ran InList [] refused 0 (unspent s.machine) lines s.machine)
-asked c refused s (OkList lines) = runs c s (ran InList list_ok refused 0 (unspent s.machine) lines s.machine)
+asked c refused s (Single line) = runs c s (ran Alone [] refused 0 (unspent s.machine (tags_seen s.masks c)) (line ∷ []) s.machine)
+asked c refused s (CommandList lines) = runs c s (ran InList [] refused 0 (unspent s.machine (tags_seen s.masks c)) lines s.machine)
+asked c refused s (OkList lines) = runs c s (ran InList list_ok refused 0 (unspent s.machine (tags_seen s.masks c)) lines s.machine)
 asked c refused s Noidle = nothing s
 
 -- A client that waits: `noidle` ends its waiting, and anything else closes it without a byte.

@@ -6,11 +6,12 @@ use Rattle.command_text.specs.declared.request.Request.{Request}
 use Rattle.command_text.specs.declared.request.Request.TheVariants.{Single, List as CommandList, OkList, Noidle}
 use Rattle.idle_masks.specs.Watched.{watched}
 use Rattle.idle_masks.specs.declared.subsystem.Subsystems.{Subsystems}
-use Rattle.machine_core.specs.Reports.{when_ended}
+use Rattle.machine_core.specs.Reports.{when_broken, when_ended}
 use Rattle.machine_core.specs.Scanning.{is_running, kept_changes, telling}
 use Rattle.machine_core.specs.State.{MachineState}
 use Rattle.state_codec.specs.declared.op.Op.{Op}
 use Rattle.daemon_core.specs.Run.{Did, Goes, Refuses, Ends, attempted, is_refused_at, Spent, spent_behind, unspent}
+use Rattle.daemon_core.specs.Seen.{tags_seen}
 use Rattle.daemon_core.specs.State.{State}
 use Rattle.daemon_core.specs.Step.{waiting_of}
 use Rattle.daemon_core.specs.declared.event.Event.{Event}
@@ -31,27 +32,28 @@ CommandsLeave place refused index spent (line ∷ lines) m =
     → CommandLeaves (spent_behind place line m spent) m (λ spent after. CommandsLeave place refused (suc index) spent lines after)
     (attempted place spent line m)
 
-abbrev pub RequestLeaves : Option ℕ → MachineState → Request → Type 0
-RequestLeaves refused m (Single line) = CommandsLeave Alone refused 0 (unspent m) (line ∷ []) m
-RequestLeaves refused m (CommandList lines) = CommandsLeave InList refused 0 (unspent m) lines m
-RequestLeaves refused m (OkList lines) = CommandsLeave InList refused 0 (unspent m) lines m
-RequestLeaves refused m Noidle = Unit {0}
+abbrev pub RequestLeaves : Option ℕ → Spent → MachineState → Request → Type 0
+RequestLeaves refused spent m (Single line) = CommandsLeave Alone refused 0 spent (line ∷ []) m
+RequestLeaves refused spent m (CommandList lines) = CommandsLeave InList refused 0 spent lines m
+RequestLeaves refused spent m (OkList lines) = CommandsLeave InList refused 0 spent lines m
+RequestLeaves refused spent m Noidle = Unit {0}
 
 -- no command is run of a client that isn't connected, or waits
-abbrev pub AskedLeaves : Option ℕ → MachineState → Request → Option (Option Subsystems) → Type 0
-AskedLeaves refused m request None = Unit {0}
-AskedLeaves refused m request (Some None) = RequestLeaves refused m request
-AskedLeaves refused m request (Some (Some mask)) = Unit {0}
+abbrev pub AskedLeaves : Option ℕ → Spent → MachineState → Request → Option (Option Subsystems) → Type 0
+AskedLeaves refused spent m request None = Unit {0}
+AskedLeaves refused spent m request (Some None) = RequestLeaves refused spent m request
+AskedLeaves refused spent m request (Some (Some mask)) = Unit {0}
 
 -- Nothing that is saved changes at any turn: each command of a request leaves the saved half as it finds it, so does what follows the end
--- of a song, and no change of a batch of the job that runs changes a row. Of the saved half no other event speaks.
+-- of a song or its failure, and no change of a batch of the job that runs changes a row. Of the saved half no other event speaks.
 abbrev pub LeavesSaved : State → Event → Option ℕ → Type 0
 LeavesSaved s (events.Connect c) refused = Unit {0}
-LeavesSaved s (events.Request c request) refused = AskedLeaves refused s.machine request (waiting_of (watched s.clients c))
+LeavesSaved s (events.Request c request) refused =
+    AskedLeaves refused (unspent s.machine (tags_seen s.masks c)) s.machine request (waiting_of (watched s.clients c))
 LeavesSaved s (events.Gone c) refused = Unit {0}
 LeavesSaved s (events.Fed ticket frames) refused = Unit {0}
 LeavesSaved s (events.Ended ticket) refused = (when_ended ticket s.machine).after.saved ≡ s.machine.saved
-LeavesSaved s (events.Broken ticket cause) refused = Unit {0}
+LeavesSaved s (events.Broken ticket cause) refused = (when_broken ticket cause s.machine).after.saved ≡ s.machine.saved
 LeavesSaved s (events.Batch job changes) refused =
     is_running job s.machine ≡ true → telling s.machine.saved.songs (kept_changes s.machine.saved.profile changes) ≡ []
 LeavesSaved s (events.ScanDone job) refused = Unit {0}

@@ -40,6 +40,7 @@ impl CoreParts {
     ghost use Rattle.idle_masks.specs.Watched.{watched, left, marked, with_waiting, reports_of, after_reports};
     ghost use Rattle.std.specs.Prelude.{Some};
     ghost use Rattle.daemon_core.specs.Room.{CanCloseAll, IsReadyToTell};
+    ghost use Rattle.daemon_core.specs.Seen.{masks_without};
     ghost use Rattle.daemon_core.specs.Session.{nothing, without};
     ghost use Rattle.daemon_core.specs.Step.{connects_client, told_to, waits_no_more};
     ghost use Rattle.daemon_core.specs.declared.outcome.Ending.TheVariants.{Waits};
@@ -61,17 +62,19 @@ impl CoreParts {
         if self.watch.join(client).is_err() {
             return Err(NoMemory);
         }
+        self.masks.forget(client);
         Ok(handled)
     }
 
     // A client is connected no more, if it was.
     pub(crate) fn leave(&mut self, client: ClientId)
         ensures watch { self.new.watch ≡ left self.old.watch client }
+        ensures masks { self.new.masks.list.items ≡ masks_without (watched self.old.watch client) self.old.masks.list.items client }
         ensures machine { self.new.machine ≡ self.old.machine }
         ensures room { self.new.room ≡ self.old.room }
     {
         match self.watch.leave(client) {
-            Ok(()) => {}
+            Ok(()) => self.masks.forget(client),
             // It was not connected.
             Err(_) => {}
         }
@@ -116,6 +119,7 @@ impl CoreParts {
     pub(crate) fn wait(&mut self, client: ClientId, mask: Subsystems)
         requires { IsSome (watched self.old.watch client) }
         ensures watch { self.new.watch ≡ with_waiting self.old.watch client (Some mask) }
+        ensures masks { self.new.masks ≡ self.old.masks }
         ensures machine { self.new.machine ≡ self.old.machine }
         ensures room { self.new.room ≡ self.old.room }
     {
@@ -129,12 +133,14 @@ impl CoreParts {
         requires empty { closes.old.items ≡ [] }
         requires room { length self.old.watch ≤ vec_capacity closes.old }
         ensures watch { self.new.watch ≡ [] }
+        ensures masks { self.new.masks.list.items ≡ [] }
         ensures machine { self.new.machine ≡ self.old.machine }
         ensures room { self.new.room ≡ self.old.room }
         ensures closes { closes.new.items ≡ numbers_of self.old.watch }
     {
         close_each(self.watch.as_slice(), closes);
         self.watch.clear();
+        self.masks.clear();
     }
 
     // What changed is pending for each client, and those that wait for it are told, behind the answer.
@@ -148,6 +154,7 @@ impl CoreParts {
         requires one { vec_len answer ≤ 1 }
         ensures outputs { result.items ≡ answer.items ++ map told_to (reports_of (marked self.old.watch changed)) }
         ensures watch { self.new.watch ≡ after_reports (marked self.old.watch changed) }
+        ensures masks { self.new.masks ≡ self.old.masks }
         ensures machine { self.new.machine ≡ self.old.machine }
     {
         if self.watch.mark(changed) {

@@ -4,6 +4,7 @@ ghost use Rattle.player_core.specs.declared.playing.PlayState.{PlayState};
 ghost use Rattle.player_core.specs.declared.order.Order.{Order as PlayOrder};
 ghost use Rattle.daemon_core.specs.State.{start};
 
+use crate::masks::Masks;
 use crate::parts::CoreParts;
 use crate::room::Room;
 use crate::watching::Watching;
@@ -42,6 +43,7 @@ impl Core {
             parts: CoreParts {
                 machine: Machine::new(alloc, saved),
                 watch: Watching::new(alloc),
+                masks: Masks::new(alloc),
                 room: Room::new(alloc),
             },
         }

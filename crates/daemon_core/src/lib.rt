@@ -6,6 +6,7 @@ pub mod daemon;
 pub mod event;
 mod handled;
 pub mod laws;
+mod masks;
 pub mod outcome;
 mod parts;
 pub mod recover;

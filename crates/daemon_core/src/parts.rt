@@ -1,6 +1,7 @@
 // What a core is made of. Its methods see the parts, and those above it the state that they stand for.
 ghost use Rattle.std.specs.Prelude.{◌≡◌};
 
+use crate::masks::Masks;
 use crate::room::Room;
 use crate::watching::Watching;
 use machine_core::Machine;
@@ -11,6 +12,7 @@ use std::alloc::Global;
 pub struct CoreParts {
     pub(crate) machine: Machine,
     pub(crate) watch: Watching,
+    pub(crate) masks: Masks,
     // Memory for what the clients are told, kept from event to event.
     pub(crate) room: Room,
 }
@@ -25,6 +27,7 @@ impl CoreParts {
         ensures closes { OnOk result (CanCloseAll self.new) }
         ensures machine { self.new.machine ≡ self.old.machine }
         ensures watch { self.new.watch ≡ self.old.watch }
+        ensures masks { self.new.masks ≡ self.old.masks }
     {
         self.room.take(alloc, self.watch.len())
     }

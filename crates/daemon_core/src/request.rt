@@ -1,7 +1,8 @@
 // The commands of a request, one after the other, and how it ends.
 ghost use Rattle.std.specs.Prelude.{◌≡◌, ◌<◌, ◌^◌, true, length};
-ghost use Rattle.daemon_core.specs.Request.{stop_of_reading, looks_at_end, CountsLooks, RunsLine, RunsLines, AnswersStop};
-ghost use Rattle.daemon_core.specs.Run.{attempted, ending_of, looks_of_line, performed, separator, spent_of};
+ghost use Rattle.daemon_core.specs.Request.{stop_of_reading, looks_at_end, tags_at_end, CountsLooks, SeesTags, RunsLine, RunsLines};
+ghost use Rattle.daemon_core.specs.Request.{AnswersStop};
+ghost use Rattle.daemon_core.specs.Run.{attempted, ending_of, looks_of_line, performed, separator, spent_of, tags_behind, tags_of_line};
 ghost use Rattle.daemon_core.specs.Step.{is_noidle};
 ghost use Rattle.machine_core.specs.Looks.{looked, looks_of};
 ghost use Rattle.machine_core.specs.Memory.{takes_memory};
@@ -11,8 +12,8 @@ use crate::handled::Handled;
 use crate::outcome::{Bytes, Ending, Outcome, Output};
 use crate::parts::CoreParts;
 use command_text::{
-    Command, LinesRef, NamedCommand, Place, ReadError, Refusal, Request, SessionCommand,
-    SettingsCommand, read_words,
+    Command, DatabaseCommand, LinesRef, NamedCommand, Place, ReadError, Refusal, Request,
+    SessionCommand, SettingsCommand, TagMask, read_words,
 };
 use idle_masks::{ClientId, Subsystems};
 use machine_core::{Failure, Looks, MAX_LOOKS, Machine, Work};
@@ -52,6 +53,8 @@ pub struct RequestEnd {
     pub(crate) refused_at: Option<u32>,
     // How much its commands looked at.
     pub(crate) looks: u64,
+    // The tags that its client sees behind it.
+    pub(crate) tags: TagMask,
 }
 
 // Why a line that wasn't read stops its request.
@@ -111,6 +114,27 @@ fn looks_at_end(refused_at: Option<u32>, looks: &Looks) -> u64
     }
 }
 
+// The tags that the client sees behind a request that ended at a command: those before it where memory was refused.
+fn tags_at_end(refused_at: Option<u32>, before: TagMask, behind: TagMask) -> TagMask
+    ensures { result ≡ tags_at_end refused_at before behind }
+{
+    match refused_at {
+        Some(_) => before,
+        None => behind,
+    }
+}
+
+// The tags that a client sees behind a command.
+#[tactic(auto, unfolding(crate::specs::Run::tags_behind))]
+fn tags_behind(command: &Command<'_>, tags: TagMask) -> TagMask
+    ensures { result ≡ tags_behind command.now tags }
+{
+    match command {
+        Command::Database(DatabaseCommand::ChangeMask(change)) => tags.changed(*change),
+        _ => tags,
+    }
+}
+
 // Adds what stands behind each command of a list that asks for it.
 fn separate(separated: bool, work: &mut Work)
     requires { HasRoom command_room work.old }
@@ -123,7 +147,7 @@ fn separate(separated: bool, work: &mut Work)
 }
 
 impl CoreParts {
-    ghost use Rattle.std.specs.Prelude.{[], IfErr, IfOk, IfSome, IsSome, OnErr, OnOk, vec_capacity};
+    ghost use Rattle.std.specs.Prelude.{[], IfErr, IfOk, IfSome, IsSome, OnErr, OnOk, vec_capacity, vec_len};
     ghost use Rattle.idle_masks.specs.Watched.{watched};
     ghost use Rattle.daemon_core.specs.Handled.{Does};
     ghost use Rattle.daemon_core.specs.Outcome.{commands_in};
@@ -133,6 +157,7 @@ impl CoreParts {
     ghost use Rattle.daemon_core.specs.Parts.{state_of};
     ghost use Rattle.daemon_core.specs.Room.{CanCloseAll, IsReadyToTell};
     ghost use Rattle.daemon_core.specs.Run.{ran, unspent};
+    ghost use Rattle.daemon_core.specs.Seen.{tags_seen};
 
     // A client's request.
     pub(crate) fn handle_request(
@@ -184,7 +209,8 @@ impl CoreParts {
         requires closes { CanCloseAll self.old }
         requires known { IsSome (watched self.old.watch client) }
         ensures ok { IfOk result (λ handled. Does (runs client (state_of self.old)
-            (ran place (separator separated) handled.outcome.refused_at 0 (unspent self.old.machine) lines.entry self.old.machine)) self.new handled) }
+            (ran place (separator separated) handled.outcome.refused_at 0
+            (unspent self.old.machine (tags_seen self.old.masks.list.items client)) lines.entry self.old.machine)) self.new handled) }
         ensures place { IfOk result (λ handled. IfSome handled.outcome.refused_at (λ k. k < length lines.entry)) }
         ensures err { OnErr result (state_of self.new ≡ state_of self.old) }
     {
@@ -192,9 +218,19 @@ impl CoreParts {
             return Err(NoMemory);
         }
         let outputs = Vec::with_capacity(alloc, 1)?;
+        self.masks.make_room()?;
+        let tags = self.masks.seen_by(client);
         let profile = self.machine.saved().profile();
         let mut work = Work::new(alloc, profile)?;
-        let end = run_lines(&mut self.machine, alloc, place, separated, lines, &mut work);
+        let end = run_lines(
+            &mut self.machine,
+            alloc,
+            place,
+            separated,
+            tags,
+            lines,
+            &mut work,
+        );
         Ok(self.end_request(alloc, client, work, end, outputs))
     }
 
@@ -212,6 +248,7 @@ impl CoreParts {
         requires known { IsSome (watched self.old.watch client) }
         requires empty { outputs.items ≡ [] }
         requires one { 0 < vec_capacity outputs }
+        requires mask { vec_len self.old.masks.list < vec_capacity self.old.masks.list }
         ensures { Does (of_ran client (state_of self.old) (ran_of self.old.machine work end) end.ending) self.new result }
     {
         let RequestEnd {
@@ -219,10 +256,12 @@ impl CoreParts {
             changed,
             refused_at,
             looks,
+            tags,
         } = end;
         let Work { text, ops, .. } = work;
         match ending {
             Ending::Answered => {
+                self.masks.set(client, tags);
                 let bytes = Bytes::new(text);
                 outputs.push_reserved(Output { client, bytes });
                 let outcome = Outcome {
@@ -264,6 +303,7 @@ impl CoreParts {
             }
             Ending::Waits(mask) => {
                 self.wait(client, mask);
+                self.masks.set(client, tags);
                 let outcome = Outcome {
                     outputs,
                     closes: Vec::new(alloc),
@@ -284,29 +324,36 @@ fn run_lines(
     alloc: Global,
     place: Place,
     separated: bool,
+    tags: TagMask,
     lines: LinesRef<'_>,
     work: &mut Work,
 ) -> RequestEnd
     requires room { HasRoom ack_room work.old }
     requires count { length lines < 2 ^ 32 }
-    ensures { RunsLines place (separator separated) lines.entry machine.old machine.new work.old work.new result }
+    ensures { RunsLines place (separator separated) tags lines.entry machine.old machine.new work.old work.new result }
 {
     let mut changed = Subsystems::none();
     let mut looks = Looks::new();
+    let mut tags = tags;
     let mut index = 0;
     let mut rest = lines;
     while let Some((line, after)) = rest.split_first() {
-        match run_line(machine, alloc, place, separated, line, work, &mut looks) {
+        let before = tags;
+        match run_line(
+            machine, alloc, place, separated, line, work, &mut looks, &mut tags,
+        ) {
             Ok(set) => changed = changed.union(set),
             Err(stop) => {
                 let profile = machine.saved().profile();
                 let (ending, refused_at) = answer_stop(profile, index, line, stop, work);
                 let looks = looks_at_end(refused_at, &looks);
+                let tags = tags_at_end(refused_at, before, tags);
                 return RequestEnd {
                     ending,
                     changed,
                     refused_at,
                     looks,
+                    tags,
                 };
             }
         }
@@ -319,6 +366,7 @@ fn run_lines(
         changed,
         refused_at: None,
         looks: looks.taken(),
+        tags,
     }
 }
 
@@ -331,10 +379,12 @@ fn run_line(
     line: &[u8],
     work: &mut Work,
     looks: &mut Looks,
+    tags: &mut TagMask,
 ) -> Result<Subsystems, Stop>
     requires { HasRoom ack_room work.old }
-    ensures runs { RunsLine (separator separated) (attempted place (spent_of work.old.size looks.old) line.now machine.old)
+    ensures runs { RunsLine (separator separated) (attempted place (spent_of work.old.size looks.old tags.old) line.now machine.old)
         machine.old machine.new work.old work.new result }
+    ensures tags { SeesTags (tags_of_line place line.now machine.old tags.old) tags.new result }
     ensures looks { CountsLooks (looked looks.old (looks_of_line place line.now machine.old)) looks.new result }
 {
     if work.make_room().is_err() {
@@ -346,7 +396,11 @@ fn run_line(
     };
     let profile = machine.saved().profile();
     match Command::read(alloc, profile, place, words.as_slice()) {
-        Ok(command) => run_command(machine, alloc, separated, command, work, looks),
+        Ok(command) => {
+            let before = *tags;
+            *tags = tags_behind(&command.command, before);
+            run_command(machine, alloc, separated, before, command, work, looks)
+        }
         Err(error) => Err(stop_of_reading(error)),
     }
 }
@@ -356,12 +410,13 @@ fn run_command(
     machine: &mut Machine,
     alloc: Global,
     separated: bool,
+    tags: TagMask,
     command: NamedCommand<'_>,
     work: &mut Work,
     looks: &mut Looks,
 ) -> Result<Subsystems, Stop>
     requires { HasRoom command_room work.old }
-    ensures ran { RunsLine (separator separated) (performed (spent_of work.old.size looks.old) command.entry machine.old)
+    ensures ran { RunsLine (separator separated) (performed (spent_of work.old.size looks.old tags) command.entry machine.old)
         machine.old machine.new work.old work.new result }
     ensures looks { looks.new ≡ looked looks.old (looks_of command.entry.command machine.old) }
     ensures memory { result ≡ Err Stop.NoMemory → takes_memory command.entry.command machine.old ≡ true }
@@ -374,7 +429,7 @@ fn run_command(
         }
         None => {}
     }
-    match machine.perform(alloc, command, work, looks) {
+    match machine.perform(alloc, tags, command, work, looks) {
         Ok(changed) => {
             separate(separated, work);
             Ok(changed)

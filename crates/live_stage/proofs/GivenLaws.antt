@@ -4,7 +4,7 @@ use Rattle.std.specs.Option.{option_and_then}
 use Rattle.disk_model.specs.History.{Change}
 use Rattle.disk_model.specs.Images.{window, IsImage}
 use Rattle.machine_core.specs.Happening.{nothing_happens}
-use Rattle.machine_core.specs.Reports.{when_ended}
+use Rattle.machine_core.specs.Reports.{when_broken, when_ended}
 use Rattle.machine_core.specs.Scanning.{changes_rows, ends_scan, finds, is_running, kept_changes, telling, when_found, when_scanned}
 use Rattle.machine_core.specs.State.{MachineState}
 use Rattle.play_journal.specs.Content.{Content, IsKnownLayout}
@@ -97,7 +97,7 @@ step_profile law s (events.Request c request) refused = by_ops s (step s (events
 step_profile law s (events.Gone c) refused = by_ops s (step s (events.Gone c) refused) (step_rebuilds law s (events.Gone c) refused tt).state
 step_profile law s (events.Fed ticket frames) refused = refl
 step_profile law s (events.Ended ticket) refused = after_all_profile (let h = when_ended ticket s.machine in h.ops) s.machine.saved
-step_profile law s (events.Broken ticket cause) refused = refl
+step_profile law s (events.Broken ticket cause) refused = after_all_profile (let h = when_broken ticket cause s.machine in h.ops) s.machine.saved
 step_profile law s (events.Batch job changes) refused = found_profile job changes s.machine
 step_profile law s (events.ScanDone job) refused = scanned_profile job s.machine
 

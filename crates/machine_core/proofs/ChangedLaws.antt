@@ -11,6 +11,7 @@ use Rattle.command_text.specs.declared.command.Command.{Command}
 use Rattle.state_codec.specs.OpsSettings.{same_flag}
 use Rattle.state_codec.specs.SavedState.{IsSavedState}
 use Rattle.state_codec.specs.declared.op.Op.{Op}
+use Rattle.command_text.specs.declared.tag_mask.TagMask.{TagMask}
 use Rattle.machine_core.specs.Before.{before_of, changed_since}
 use Rattle.machine_core.specs.Changed.{same_job, same_playing, same_options, changed}
 use Rattle.machine_core.specs.Command.{meaning}
@@ -52,13 +53,14 @@ since_is_changed m x lawful kept =
     }
 
 -- so they are of a command, told by the ops that the work has gained
-pub since_command : (command : Command) (m n : MachineState) (work done : Work) (before : Before) (made : ℕ) (all : List Op) →
-    Went m.saved.profile (meaning command m) n work done → IsSavedState m.saved → before ≡ before_of m → made ≡ vec_len work.ops →
+pub since_command : (mask : TagMask) (command : Command) (m n : MachineState) (work done : Work) (before : Before) (made : ℕ)
+    (all : List Op) →
+    Went m.saved.profile (meaning mask command m) n work done → IsSavedState m.saved → before ≡ before_of m → made ≡ vec_len work.ops →
     all ≡ done.ops.items → changed_since before (take (length all - made) (drop made all)) n ≡ changed m n
-since_command command m n work done before made all went kept is count same =
+since_command mask command m n work done before made all went kept is count same =
     let x : Meaning = went.meaning in
     let old : List Op = work.ops.items in
-    let lawful : IsLawful m x = subst (Lawful m) went.means (command_lawful command m) in
+    let lawful : IsLawful m x = subst (Lawful m) went.means (command_lawful mask command m) in
     let all_is : all ≡ old ++ x.ops = same ∙ went.ops.ops in
     let counted : made ≡ length old = omega (arith, work.ops.ok.0) in
     let behind : drop made all ≡ x.ops =

@@ -2,6 +2,7 @@
 -- refused. So a law of all commands is proved of the forms alone; a command that is added is found to have one, or has its line here.
 use Rattle.std.proofs.Common.{◌≡◌, ℕ, Bool, true, false, not, suc, List, [], Option, Some, None, Result, Ok, Err, refl, arith}
 use Rattle.std.specs.Prelude.{nat_lt, if◌then◌else◌}
+use Rattle.command_text.specs.declared.tag_mask.TagMask.{TagMask}
 use Rattle.command_text.specs.AnswerSetup.{setup_lines}
 use Rattle.command_text.specs.declared.command.Command.{Command}
 use Rattle.command_text.specs.declared.command.Command.TheVariants as topics
@@ -159,58 +160,58 @@ module _ (Q : MachineState → Meaning → Type 0) (of : OfForms Q) where
   settings_so settings.Status m = says_so _ m
   settings_so other m = search forms
 
-  database_so : (command : DatabaseCommand) (m : MachineState) → Holds Q m (database_meaning command m)
+  database_so : (mask : TagMask) (command : DatabaseCommand) (m : MachineState) → Holds Q m (database_meaning mask command m)
   unfolding database_meaning
-  database_so (database.Update place) m =
+  database_so mask (database.Update place) m =
       then_so m (must (not m.job.runs) AlreadyUpdating) _
       (λ free. of.begins (begun (next_job m.job.number) place false) _ m (next_is_other m.job.number))
-  database_so (database.Rescan place) m =
+  database_so mask (database.Rescan place) m =
       then_so m (must (not m.job.runs) AlreadyUpdating) _
       (λ free. of.begins (begun (next_job m.job.number) place true) _ m (next_is_other m.job.number))
-  database_so other m = search forms
+  database_so mask other m = search forms
 
-  queue_so : (command : QueueCommand) (m : MachineState) → Holds Q m (queue_meaning command m)
+  queue_so : (mask : TagMask) (command : QueueCommand) (m : MachineState) → Holds Q m (queue_meaning mask command m)
   unfolding queue_meaning
-  queue_so (queue.InfoId None) m = says_so _ m
-  queue_so other m = search forms
+  queue_so mask (queue.InfoId None) m = says_so _ m
+  queue_so mask other m = search forms
 
-  finding_so : (command : FindingCommand) (m : MachineState) → Holds Q m (finding_meaning command m)
+  finding_so : (mask : TagMask) (command : FindingCommand) (m : MachineState) → Holds Q m (finding_meaning mask command m)
   unfolding finding_meaning
-  finding_so (finding.Count tree) m = says_so _ m
-  finding_so other m = search forms
+  finding_so mask (finding.Count tree) m = says_so _ m
+  finding_so mask other m = search forms
 
-  lists_so : (command : ListsCommand) (m : MachineState) → Holds Q m (lists_meaning command m)
+  lists_so : (mask : TagMask) (command : ListsCommand) (m : MachineState) → Holds Q m (lists_meaning mask command m)
   unfolding lists_meaning
-  lists_so (lists.Save name Replace) m = search forms
-  lists_so other m = search forms
+  lists_so mask (lists.Save name Replace) m = search forms
+  lists_so mask other m = search forms
 
   stickers_so : (command : StickersCommand) (m : MachineState) → Holds Q m (stickers_meaning command m)
   unfolding stickers_meaning
   stickers_so (stickers.List uri) m = search forms
   stickers_so other m = search forms
 
-  playing_so : (command : PlayingCommand) (m : MachineState) → Holds Q m (playing_meaning command m)
+  playing_so : (mask : TagMask) (command : PlayingCommand) (m : MachineState) → Holds Q m (playing_meaning mask command m)
   unfolding playing_meaning
-  playing_so playing.ClearError m = of.turns Turn.ClearError m
-  playing_so playing.CurrentSong m = says_so _ m
-  playing_so playing.Next m = of.moves steps.Next m tt
-  playing_so (playing.Pause switch) m = of.turns (Turn.Pause switch) m
-  playing_so (playing.Play None) m = of.moves steps.Resume m tt
-  playing_so (playing.Play (Some selector)) m = of.moves (steps.Play selector) m tt
-  playing_so playing.Previous m = of.turns Turn.Previous m
-  playing_so (playing.Seek selector milliseconds) m = of.moves (steps.Seek selector (named_length selector m) milliseconds) m refl
-  playing_so (playing.SeekCurrent time) m = of.turns (Turn.SeekCurrent time) m
-  playing_so playing.Stop m = of.turns Turn.Stop m
+  playing_so mask playing.ClearError m = of.turns Turn.ClearError m
+  playing_so mask playing.CurrentSong m = says_so _ m
+  playing_so mask playing.Next m = of.moves steps.Next m tt
+  playing_so mask (playing.Pause switch) m = of.turns (Turn.Pause switch) m
+  playing_so mask (playing.Play None) m = of.moves steps.Resume m tt
+  playing_so mask (playing.Play (Some selector)) m = of.moves (steps.Play selector) m tt
+  playing_so mask playing.Previous m = of.turns Turn.Previous m
+  playing_so mask (playing.Seek selector milliseconds) m = of.moves (steps.Seek selector (named_length selector m) milliseconds) m refl
+  playing_so mask (playing.SeekCurrent time) m = of.turns (Turn.SeekCurrent time) m
+  playing_so mask playing.Stop m = of.turns Turn.Stop m
 
   -- all commands
-  pub command_so : (command : Command) (m : MachineState) → Holds Q m (meaning command m)
+  pub command_so : (mask : TagMask) (command : Command) (m : MachineState) → Holds Q m (meaning mask command m)
   unfolding meaning
-  command_so (topics.Settings command) m = settings_so command m
-  command_so (topics.Database command) m = database_so command m
-  command_so (topics.Queue command) m = queue_so command m
-  command_so (topics.Finding command) m = finding_so command m
-  command_so (topics.Lists command) m = lists_so command m
-  command_so (topics.Stickers command) m = stickers_so command m
-  command_so (topics.Playing command) m = playing_so command m
-  command_so (topics.Session command) m = says_so [] m
-  command_so (topics.Setup command) m = says_so (setup_lines command) m
+  command_so mask (topics.Settings command) m = settings_so command m
+  command_so mask (topics.Database command) m = database_so mask command m
+  command_so mask (topics.Queue command) m = queue_so mask command m
+  command_so mask (topics.Finding command) m = finding_so mask command m
+  command_so mask (topics.Lists command) m = lists_so mask command m
+  command_so mask (topics.Stickers command) m = stickers_so command m
+  command_so mask (topics.Playing command) m = playing_so mask command m
+  command_so mask (topics.Session command) m = says_so [] m
+  command_so mask (topics.Setup command) m = says_so (setup_lines command) m

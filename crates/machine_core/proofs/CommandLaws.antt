@@ -1,5 +1,6 @@
 -- Every command is lawful, since each form of a meaning is.
 use Rattle.command_text.specs.declared.command.Command.{Command}
+use Rattle.command_text.specs.declared.tag_mask.TagMask.{TagMask}
 use Rattle.machine_core.specs.Command.{meaning}
 use Rattle.machine_core.specs.State.{MachineState}
 use Rattle.machine_core.proofs.CommandForms.{OfForms, command_so, turned}
@@ -17,5 +18,5 @@ forms_lawful = record {
   turns = λ turn m. puts_lawful (turned turn m) m;
 }
 
-pub command_lawful : (command : Command) (m : MachineState) → Lawful m (meaning command m)
-command_lawful command m = command_so IsLawful forms_lawful command m
+pub command_lawful : (mask : TagMask) (command : Command) (m : MachineState) → Lawful m (meaning mask command m)
+command_lawful mask command m = command_so IsLawful forms_lawful mask command m

@@ -5,6 +5,7 @@ use Rattle.std.proofs.lemmas.List.Elements.{filter_agree}
 use Rattle.std.specs.Prelude.{if◌then◌else◌}
 use Rattle.std.specs.Str.{bytes_eq}
 use Rattle.command_text.specs.declared.refusal.CommandRefusal.TheVariants.{NoSuchUri}
+use Rattle.command_text.specs.declared.tag_mask.TagMask.{TagMask}
 use Rattle.profile.specs.declared.profile.Profile.{Profile}
 use Rattle.profile.specs.declared.profile.Profile.TheVariants.{Named, Wide}
 use Rattle.song_db.specs.Place.{is_under, place_of}
@@ -26,22 +27,23 @@ same_lists : (profile : Profile) (lists : Stored) (a b : Bor (List ℕ)) → roo
 same_lists Named lists a b = refl
 same_lists Wide lists a b = refl
 
-same_content : (profile : Profile) (songs : List Row) (path : Bor (List ℕ))
-    → content_lines profile songs (At (lent path.now)) ≡ content_lines profile songs (At path)
-same_content Named songs path = refl
-same_content Wide songs path = refl
+same_content : (mask : TagMask) (profile : Profile) (songs : List Row) (path : Bor (List ℕ))
+    → content_lines mask profile songs (At (lent path.now)) ≡ content_lines mask profile songs (At path)
+same_content mask Named songs path = refl
+same_content mask Wide songs path = refl
 
-pub same_folder_info : (path : Bor (List ℕ)) (s : SavedState)
-    → folder_info s (place_of (lent path.now)) ≡ folder_info s (place_of path)
-same_folder_info path s = by_cases (bytes_eq path.now [] || bytes_eq path.now (codes "/")) refl where
+pub same_folder_info : (mask : TagMask) (path : Bor (List ℕ)) (s : SavedState)
+    → folder_info mask s (place_of (lent path.now)) ≡ folder_info mask s (place_of path)
+same_folder_info mask path s = by_cases (bytes_eq path.now [] || bytes_eq path.now (codes "/")) refl where
   by_cases : (b : Bool) → (bytes_eq path.now [] || bytes_eq path.now (codes "/")) ≡ b
-      → folder_info s (place_of (lent path.now)) ≡ folder_info s (place_of path)
+      → folder_info mask s (place_of (lent path.now)) ≡ folder_info mask s (place_of path)
   by_cases true is = rw is
   by_cases false is =
-      rw is (ap (λ (lists : List ℕ). if is_folder s.songs (At path) then Ok (content_lines s.profile s.songs (At (lent path.now)) ++ lists)
+      rw is (ap (λ (lists : List ℕ). if is_folder s.songs (At path) then Ok (content_lines mask s.profile s.songs (At
+      (lent path.now)) ++ lists)
       else Err NoSuchUri) (same_lists s.profile s.lists (lent path.now) path)
       ∙ ap (λ (lines : List ℕ). if is_folder s.songs (At path) then Ok (lines ++ root_lists s.profile s.lists (At path)) else Err NoSuchUri)
-      (same_content s.profile s.songs path))
+      (same_content mask s.profile s.songs path))
 
 pub same_below : (path : Bor (List ℕ)) (name : List ℕ) (test : ValueTest) (m : MachineState)
     → found_below (place_of (lent path.now)) name test m ≡ found_below (place_of path) name test m

@@ -6,3 +6,6 @@ pub mod Selected
 pub mod Sorted
 pub mod Told
 pub mod Values
+pub mod Distinct
+pub mod Groups
+pub mod GroupMaps

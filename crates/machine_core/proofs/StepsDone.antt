@@ -1,12 +1,14 @@
 -- From the parts of a step that was made to what it means.
-use Rattle.std.proofs.Common.{◌≡◌, ℕ, ◌+◌, ◌≤◌, ◌++◌, length, refl, sym, subst, ap, ◌∙◌, arith}
+use Rattle.std.proofs.Common.{◌≡◌, ℕ, ◌+◌, ◌<◌, ◌≤◌, List, ◌++◌, length, Some, refl, sym, subst, ap, ◌∙◌, arith}
 use Rattle.std.specs.Prelude.{Result, Ok, Err, IfOk, IsOkAnd}
 use Rattle.std.proofs.lemmas.List.{append-nil}
+use Rattle.play_queue.specs.declared.entry.Entry.{Entry}
 use Rattle.player_core.specs.Answered.{OnStep}
 use Rattle.player_core.specs.Player.{PlayerState, Step}
 use Rattle.player_core.specs.Refusal.{AnswersIfMemory, refusal_of}
 use Rattle.player_core.specs.declared.changes.Changes.{Changes}
 use Rattle.player_core.specs.declared.refusal.PlayerError.{PlayerError}
+use Rattle.player_core.specs.declared.settings.PlaySettings.{PlaySettings}
 use Rattle.profile.specs.declared.profile.Profile.{Profile}
 use Rattle.state_codec.specs.Spelling.{ops_bytes}
 use Rattle.std.specs.Vec.{vec_len, vec_capacity}
@@ -14,6 +16,7 @@ use Rattle.machine_core.specs.Steps.{step_ops, steps, moves}
 use Rattle.machine_core.specs.State.{MachineState}
 use Rattle.machine_core.specs.Work.{AddsNothing, AddsOps, HasRoom, Went, command_room}
 use Rattle.machine_core.specs.declared.work.Work.{Work}
+use Rattle.machine_core.proofs.Playing.Steps.{FairIfMade}
 
 -- a step was made, and its ops were added
 pub made_went : (s : Result Step PlayerError) (m n : MachineState) (w a d : Work) (changes : Changes) →
@@ -50,3 +53,11 @@ pub bytes_exact : (s : Result Step PlayerError) (profile : Profile) (player : Pl
 bytes_exact (Err e) profile player changes bytes answer on is = absurd (cc)
 bytes_exact (Ok made) profile player changes bytes answer on is =
     sym (is profile ∙ ap (λ (step : Step). length (ops_bytes profile (step_ops step.changes))) on)
+
+-- the entry that leaves by a step stands in the queue
+pub leaves_within : (s : Result Step PlayerError) (entries : List Entry) (settings : PlaySettings) (player : PlayerState)
+    (changes : Changes) → FairIfMade s entries settings → AnswersIfMemory {T = Changes} (refusal_of s) (Ok changes)
+    → IfOk s (λ (made : Step). OnStep made player (Ok changes)) → (at : ℕ) → changes.removed ≡ Some at → at < length entries
+leaves_within (Err e) entries settings player changes fair answer on = absurd (cc)
+leaves_within (Ok made) entries settings player changes fair answer on = λ at is.
+    fair.removed at (sym (ap (λ (step : Step). step.changes.removed) on) ∙ is)

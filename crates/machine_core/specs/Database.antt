@@ -8,6 +8,8 @@ use Rattle.command_text.specs.declared.command.database.DatabaseCommand.{Databas
 use Rattle.command_text.specs.declared.command.database.DatabaseCommand.TheVariants as commands
 use Rattle.command_text.specs.declared.refusal.CommandRefusal.{CommandRefusal}
 use Rattle.command_text.specs.declared.refusal.CommandRefusal.TheVariants.{AlreadyUpdating, NoSuchUri}
+use Rattle.command_text.specs.Masks.{has}
+use Rattle.command_text.specs.declared.tag_mask.TagMask.{TagMask}
 use Rattle.profile.specs.Profile.{tags_of}
 use Rattle.profile.specs.declared.profile.Profile.{Profile}
 use Rattle.profile.specs.declared.profile.Profile.TheVariants.{Named, Wide}
@@ -24,6 +26,7 @@ use Rattle.state_codec.specs.SavedState.{SavedState}
 use Rattle.state_codec.specs.Steps.{◌>>=◌}
 use Rattle.song_files.specs.TagSet.{tags_in}
 use Rattle.stored_lists.specs.Lists.{Stored}
+use Rattle.song_files.specs.declared.tag.Tag.{Tag}
 use Rattle.song_files.specs.declared.tag.Tag.TheVariants.{Artist, Album}
 use Rattle.machine_core.specs.Lent.{lent}
 use Rattle.machine_core.specs.Lists.{name_lines}
@@ -35,30 +38,32 @@ use Rattle.machine_core.specs.declared.answer_database.Detail.TheVariants.{Paths
 use Rattle.machine_core.specs.declared.job.Job.{Job}
 
 -- the folders and the songs right in a place, by their bytes; or the songs and then the folders, as they are told
-abbrev pub content_lines : Profile → List Row → Place → List ℕ
-content_lines Named songs place = flat_map directory_line (folders_in songs place) ++ flat_map song_lines (songs_in songs place)
-content_lines Wide songs place =
+abbrev pub content_lines : TagMask → Profile → List Row → Place → List ℕ
+content_lines mask Named songs place =
+    flat_map directory_line (folders_in songs place) ++ flat_map (song_lines mask) (songs_in songs place)
+content_lines mask Wide songs place =
     let rows = told_under songs place in
-    flat_map song_lines (told_songs_in place rows) ++ flat_map directory_line (told_folders_in place rows)
+    flat_map (song_lines mask) (told_songs_in place rows) ++ flat_map directory_line (told_folders_in place rows)
 
 -- the playlists, which the wide profile tells behind what stands right in the root
 abbrev pub root_lists : Profile → Stored → Place → List ℕ
 root_lists Wide lists Root = name_lines Wide lists
 root_lists profile lists place = []
 
-abbrev pub folder_info : SavedState → Place → Result (List ℕ) CommandRefusal
-folder_info s place =
-    if is_folder s.songs place then Ok (content_lines s.profile s.songs place ++ root_lists s.profile s.lists place) else Err NoSuchUri
+abbrev pub folder_info : TagMask → SavedState → Place → Result (List ℕ) CommandRefusal
+folder_info mask s place =
+    if is_folder s.songs place then Ok (content_lines mask s.profile s.songs place ++ root_lists s.profile s.lists place)
+    else Err NoSuchUri
 
 -- the song of a path goes before the folder of that path
-abbrev pub info_at : SavedState → List ℕ → Option Row → Result (List ℕ) CommandRefusal
-info_at s path (Some row) = Ok (song_lines row)
-info_at s path None = folder_info s (place_of (lent path))
+abbrev pub info_at : TagMask → SavedState → List ℕ → Option Row → Result (List ℕ) CommandRefusal
+info_at mask s path (Some row) = Ok (song_lines mask row)
+info_at mask s path None = folder_info mask s (place_of (lent path))
 
--- a song by its path alone, or by all that is known of it
+-- a song by its path alone, or by all that is known of it and the client sees
 abbrev pub detail_lines : Detail → Row → List ℕ
 detail_lines Paths row = file_line row.uri
-detail_lines Songs row = song_lines row
+detail_lines (Songs mask) row = song_lines mask row
 
 abbrev pub item_lines : Detail → Item → List ℕ
 item_lines detail (FolderAt path) = directory_line path
@@ -105,14 +110,20 @@ begins_job place all m = do
   free ← must (not m.job.runs) AlreadyUpdating
   begins (begun (next_job m.job.number) place all) (job_line (next_job m.job.number)) m
 
-unfoldable pub database_meaning : DatabaseCommand → MachineState → Meant
-database_meaning commands.Commands m = says (listed_commands m.saved.profile) m
-database_meaning (commands.ListAll path) m = listing Paths path m
-database_meaning (commands.ListAllInfo path) m = listing Songs path m
-database_meaning (commands.ListInfo path) m =
-    let named = unwrap_or path [] in answers (info_at m.saved named (row_at m.saved.songs named)) m
-database_meaning commands.NotCommands m = says [] m
-database_meaning commands.Stats m = says (statistics m.saved.songs) m
-database_meaning (commands.Rescan place) m = begins_job place true m
-database_meaning commands.TagTypes m = says (flat_map tag_type_line (tags_in (tags_of m.saved.profile))) m
-database_meaning (commands.Update place) m = begins_job place false m
+-- the name of a tag that the client sees
+abbrev pub shown_type : TagMask → Tag → List ℕ
+shown_type mask tag = if has mask tag then tag_type_line tag else []
+
+-- which tags a client sees is nothing to the machine
+unfoldable pub database_meaning : TagMask → DatabaseCommand → MachineState → Meant
+database_meaning mask (commands.ChangeMask change) m = says [] m
+database_meaning mask commands.Commands m = says (listed_commands m.saved.profile) m
+database_meaning mask (commands.ListAll path) m = listing Paths path m
+database_meaning mask (commands.ListAllInfo path) m = listing (Songs mask) path m
+database_meaning mask (commands.ListInfo path) m =
+    let named = unwrap_or path [] in answers (info_at mask m.saved named (row_at m.saved.songs named)) m
+database_meaning mask commands.NotCommands m = says [] m
+database_meaning mask commands.Stats m = says (statistics m.saved.songs) m
+database_meaning mask (commands.Rescan place) m = begins_job place true m
+database_meaning mask commands.TagTypes m = says (flat_map (shown_type mask) (tags_in (tags_of m.saved.profile))) m
+database_meaning mask (commands.Update place) m = begins_job place false m

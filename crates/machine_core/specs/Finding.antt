@@ -2,7 +2,8 @@
 use Rattle.std.specs.Prelude.{◌≡◌, ℕ, ◌≤◌, suc, List, [], ◌∷◌, ◌++◌, length, take, drop, filter, flat_map, Option, Some, None}
 use Rattle.std.specs.Prelude.{Result, OnOk, OnErr, vec_capacity, if◌then◌else◌}
 use Rattle.std.specs.Global.{Vec}
-use Rattle.std.specs.List.{filter_map}
+use Rattle.std.specs.List.{filter_map, list_any}
+use Rattle.std.specs.Str.{bytes_eq}
 use Rattle.command_text.specs.AnswerNames.{count_lines, value_line}
 use Rattle.command_text.specs.AnswerSongs.{file_line, song_lines, entry_lines}
 use Rattle.command_text.specs.declared.command.finding.FindingCommand.{FindingCommand}
@@ -16,6 +17,7 @@ use Rattle.filter_expr.specs.Tree.{Tree}
 use Rattle.filter_expr.specs.declared.case.Case.{Case}
 use Rattle.filter_expr.specs.declared.case.Case.TheVariants.{Exact, Folded}
 use Rattle.filter_expr.specs.declared.order.SortOrder.{SortOrder}
+use Rattle.command_text.specs.declared.tag_mask.TagMask.{TagMask}
 use Rattle.play_queue.specs.declared.entry.Entry.{Entry}
 use Rattle.profile.specs.declared.profile.Profile.{Profile}
 use Rattle.profile.specs.declared.profile.Profile.TheVariants.{Wide}
@@ -74,31 +76,52 @@ told_texts profile tag row = or_empty profile (texts_of row.tags (told_tag row.t
 abbrev pub told_values : Profile → List Row → Tag → List (List ℕ)
 told_values profile rows tag = distinct_of (flat_map (told_texts profile tag) rows)
 
+-- the songs that tell a value of a tag
+abbrev pub rows_telling : Profile → Tag → List ℕ → List Row → List Row
+rows_telling profile tag value rows = filter (λ row. list_any (bytes_eq value) (told_texts profile tag row)) rows
+
+-- the values of tags, the outermost first: each value, and behind it those of the next tag among the songs that tell it
+abbrev pub group_lines : Profile → List Tag → List Row → List ℕ
+group_lines profile [] rows = []
+group_lines profile (tag ∷ tags) rows =
+    flat_map (λ value. value_line tag value ++ group_lines profile tags (rows_telling profile tag value rows))
+    (told_values profile rows tag)
+
+-- the values of a tag, each with how many songs tell it and how long they play
+abbrev pub rows_counted : List Row → List ℕ
+rows_counted rows = count_lines (length rows) (total_of rows)
+
+abbrev pub group_counts : Profile → Tag → List Row → List ℕ
+group_counts profile tag rows =
+    flat_map (λ value. value_line tag value ++ rows_counted (rows_telling profile tag value rows)) (told_values profile rows tag)
+
 abbrev pub value_lines : Tag → List (List ℕ) → List ℕ
 value_lines tag values = flat_map (value_line tag) values
 
 -- the entry at a position, where the row of its song matches
-abbrev pub entry_found : Case → Tree → ℕ → Entry → Option Row → List ℕ
-entry_found case tree position entry None = []
-entry_found case tree position entry (Some row) = if is_match case tree row then entry_lines row position entry else []
+abbrev pub entry_found : TagMask → Case → Tree → ℕ → Entry → Option Row → List ℕ
+entry_found mask case tree position entry None = []
+entry_found mask case tree position entry (Some row) = if is_match case tree row then entry_lines mask row position entry else []
 
 -- of the entries that stand from a position on those that match, as the queue has them
-abbrev pub entries_found : Case → Tree → List Row → ℕ → List Entry → List ℕ
-entries_found case tree songs position [] = []
-entries_found case tree songs position (entry ∷ entries) =
-    entry_found case tree position entry (row_at songs entry.uri) ++ entries_found case tree songs (suc position) entries
+abbrev pub entries_found : TagMask → Case → Tree → List Row → ℕ → List Entry → List ℕ
+entries_found mask case tree songs position [] = []
+entries_found mask case tree songs position (entry ∷ entries) =
+    entry_found mask case tree position entry (row_at songs entry.uri) ++ entries_found mask case tree songs (suc position) entries
 
-unfoldable pub finding_meaning : FindingCommand → MachineState → Meant
-finding_meaning (commands.Add search to) m = adds to (numbers_in m.saved.songs (found m.saved.profile search m.saved.songs)) [] m
-finding_meaning (commands.AddToPlaylist name tree) m = do
+unfoldable pub finding_meaning : TagMask → FindingCommand → MachineState → Meant
+finding_meaning mask (commands.Add search to) m = adds to (numbers_in m.saved.songs (found m.saved.profile search m.saved.songs)) [] m
+finding_meaning mask (commands.AddToPlaylist name tree) m = do
   good ← list_name name
   edits (OfLists (list_ops.Add good (numbers_in m.saved.songs (matching Folded tree (rows_told m.saved.profile m.saved.songs))))) [] m
-finding_meaning (commands.Count tree) m =
+finding_meaning mask (commands.Count tree) m =
     let found = matching Exact tree m.saved.songs in says (count_lines (length found) (total_of found)) m
-finding_meaning (commands.Find search) m = says (flat_map song_lines (found m.saved.profile search m.saved.songs)) m
-finding_meaning (commands.InQueue case tree) m = says (entries_found case tree m.saved.songs 0 m.saved.queue.entries) m
-finding_meaning (commands.ListFiles tree) m = says (flat_map (λ row. file_line row.uri) (chosen tree m.saved.songs)) m
-finding_meaning (commands.ListTag tag tree) m =
+finding_meaning mask (commands.CountGroups tag tree) m = says (group_counts m.saved.profile tag (chosen tree m.saved.songs)) m
+finding_meaning mask (commands.Find search) m = says (flat_map (song_lines mask) (found m.saved.profile search m.saved.songs)) m
+finding_meaning mask (commands.InQueue case tree) m = says (entries_found mask case tree m.saved.songs 0 m.saved.queue.entries) m
+finding_meaning mask (commands.ListFiles tree) m = says (flat_map (λ row. file_line row.uri) (chosen tree m.saved.songs)) m
+finding_meaning mask (commands.ListGroups tags tree) m = says (group_lines m.saved.profile tags (chosen tree m.saved.songs)) m
+finding_meaning mask (commands.ListTag tag tree) m =
     says (value_lines tag (told_values m.saved.profile (chosen tree m.saved.songs) tag)) m
 
 -- a part of a list: so many are passed over, up to an end, which is counted from the first

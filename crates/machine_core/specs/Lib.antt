@@ -13,6 +13,7 @@ pub mod Settings
 pub mod Database
 pub mod Queue
 pub mod Finding
+pub mod Grouped
 pub mod Lists
 pub mod Stickers
 pub mod Entries

@@ -10,6 +10,7 @@ use Rattle.command_text.specs.declared.command.lists.SaveMode.TheVariants.{Creat
 use Rattle.command_text.specs.declared.range.PositionRange.{PositionRange}
 use Rattle.command_text.specs.declared.refusal.CommandRefusal.{CommandRefusal}
 use Rattle.command_text.specs.declared.refusal.CommandRefusal.TheVariants.{BadPlaylistName, NoSuchPlaylist, NoCurrentSong}
+use Rattle.command_text.specs.declared.tag_mask.TagMask.{TagMask}
 use Rattle.play_queue.specs.declared.target.Target.{Target}
 use Rattle.profile.specs.declared.profile.Profile.{Profile}
 use Rattle.song_db.specs.Row.{Row, row_at}
@@ -43,12 +44,12 @@ abbrev pub name_lines : Profile → Stored → List ℕ
 name_lines profile lists = flat_map (playlist_lines profile) (names_of lists)
 
 -- a song's lines, or its URI alone where the song is gone
-abbrev pub lines_or_uri : List ℕ → Option Row → List ℕ
-lines_or_uri uri (Some row) = song_lines row
-lines_or_uri uri None = file_line uri
+abbrev pub lines_or_uri : TagMask → List ℕ → Option Row → List ℕ
+lines_or_uri mask uri (Some row) = song_lines mask row
+lines_or_uri mask uri None = file_line uri
 
-abbrev pub song_info : List Row → List ℕ → List ℕ
-song_info songs uri = lines_or_uri uri (row_at songs uri)
+abbrev pub song_info : TagMask → List Row → List ℕ → List ℕ
+song_info mask songs uri = lines_or_uri mask uri (row_at songs uri)
 
 -- the songs in the range that still have rows
 abbrev pub rows_to_load : List Row → Uris → Option PositionRange → Option Target → Option ℕ → Result (List ℕ) CommandRefusal
@@ -71,45 +72,45 @@ replaces name m =
     unless_refused (told (refusal_of_all (replace_ops name) m.saved))
     (if replaces_nothing name m.saved then stands [] m else replaced name m)
 
-unfoldable pub lists_meaning : ListsCommand → MachineState → Meant
-lists_meaning (commands.Add name path) m = do
+unfoldable pub lists_meaning : TagMask → ListsCommand → MachineState → Meant
+lists_meaning mask (commands.Add name path) m = do
   good ← list_name name
   rows ← numbers_named m.saved.profile m.saved.songs path
   edits (Lists (Add good rows)) [] m
-lists_meaning (commands.Clear name) m = do
+lists_meaning mask (commands.Clear name) m = do
   good ← list_name name
   edits (Lists (Clear good)) [] m
-lists_meaning (commands.Delete name range) m = do
+lists_meaning mask (commands.Delete name range) m = do
   songs ← songs_named m.saved.lists name
   span ← span_in range (length songs)
   edits (Lists (Remove name span.start span.end)) [] m
-lists_meaning (commands.Load name range to) m = do
+lists_meaning mask (commands.Load name range to) m = do
   songs ← songs_named m.saved.lists name
   rows ← rows_to_load m.saved.songs songs range to (shown_of m).current
   adds to rows [] m
-lists_meaning (commands.Move name from to) m = do
+lists_meaning mask (commands.Move name from to) m = do
   good ← list_name name
   edits (Lists (Move good from to)) [] m
-lists_meaning commands.Names m = says (name_lines m.saved.profile m.saved.lists) m
-lists_meaning (commands.Remove name) m = do
+lists_meaning mask commands.Names m = says (name_lines m.saved.profile m.saved.lists) m
+lists_meaning mask (commands.Remove name) m = do
   good ← list_name name
   edits (Lists (Drop good)) [] m
-lists_meaning (commands.Rename from to) m = do
+lists_meaning mask (commands.Rename from to) m = do
   old ← list_name from
   new ← list_name to
   edits (Lists (Rename old new)) [] m
-lists_meaning (commands.Save name Create) m = do
+lists_meaning mask (commands.Save name Create) m = do
   good ← list_name name
   edits (Lists (Save good)) [] m
-lists_meaning (commands.Save name Append) m = do
+lists_meaning mask (commands.Save name Append) m = do
   songs ← songs_named m.saved.lists name
   edits (Lists (Add name (queue_rows m))) [] m
-lists_meaning (commands.Save name Replace) m = do
+lists_meaning mask (commands.Save name Replace) m = do
   good ← list_name name
   replaces good m
-lists_meaning (commands.Songs name) m = do
+lists_meaning mask (commands.Songs name) m = do
   songs ← songs_named m.saved.lists name
   says (flat_map file_line songs) m
-lists_meaning (commands.SongsInfo name) m = do
+lists_meaning mask (commands.SongsInfo name) m = do
   songs ← songs_named m.saved.lists name
-  says (flat_map (song_info m.saved.songs) songs) m
+  says (flat_map (song_info mask m.saved.songs) songs) m

@@ -93,13 +93,20 @@ abbrev pub values_looks : Option Tree → MachineState → ℕ
 values_looks None m = 10 * length m.saved.songs
 values_looks (Some tree) m = 10 * song_looks Exact tree 4 m.saved.songs
 
+-- the same of so many tags, each within the values of the tag before: each song is asked for those of each
+abbrev pub groups_looks : ℕ → Option Tree → MachineState → ℕ
+groups_looks tags None m = 10 * (tags * length m.saved.songs)
+groups_looks tags (Some tree) m = 10 * song_looks Exact tree (3 + tags) m.saved.songs
+
 abbrev pub finding_looks : FindingCommand → MachineState → ℕ
 finding_looks (finding.Add search to) m = search_looks search m
 finding_looks (finding.AddToPlaylist name tree) m = 10 * song_looks Folded tree 0 m.saved.songs
 finding_looks (finding.Count tree) m = 10 * song_looks Exact tree 1 m.saved.songs
+finding_looks (finding.CountGroups tag tree) m = values_looks tree m
 finding_looks (finding.Find search) m = search_looks search m
 finding_looks (finding.InQueue case tree) m = 10 * ((tests_of tree + 1) * queue_length m)
 finding_looks (finding.ListFiles tree) m = values_looks tree m
+finding_looks (finding.ListGroups tags tree) m = groups_looks (min (length tags) 31) tree m
 finding_looks (finding.ListTag tag tree) m = values_looks tree m
 
 -- the songs of a playlist, if there is one of this name

@@ -12,6 +12,7 @@ use Rattle.command_text.specs.declared.command.settings.SettingsCommand.{Setting
 use Rattle.command_text.specs.declared.command.settings.SettingsCommand.TheVariants as settings
 use Rattle.command_text.specs.declared.command.setup.SetupCommand.{SetupCommand}
 use Rattle.command_text.specs.declared.command.setup.SetupCommand.TheVariants as setup
+use Rattle.command_text.specs.Masks.{all_in_mask}
 use Rattle.machine_core.specs.Meaning.{Meant}
 use Rattle.machine_core.specs.Queue.{queue_meaning}
 use Rattle.machine_core.specs.Settings.{settings_meaning}
@@ -34,6 +35,7 @@ settings_take_memory command m = grows (settings_meaning command m)
 
 -- `update` beside a job that runs is refused before it takes any
 abbrev pub database_takes_memory : DatabaseCommand → MachineState → Bool
+database_takes_memory (database.ChangeMask change) m = false
 database_takes_memory database.NotCommands m = false
 database_takes_memory (database.Update place) m = not m.job.runs
 database_takes_memory (database.Rescan place) m = not m.job.runs
@@ -41,14 +43,14 @@ database_takes_memory _ m = true
 
 -- those that take entries out of the queue or exchange their places take memory for their op alone
 abbrev pub queue_takes_memory : QueueCommand → MachineState → Bool
-queue_takes_memory queue.Clear m = grows (queue_meaning queue.Clear m)
-queue_takes_memory (queue.Delete range) m = grows (queue_meaning (queue.Delete range) m)
-queue_takes_memory (queue.DeleteId id) m = grows (queue_meaning (queue.DeleteId id) m)
-queue_takes_memory (queue.Move range to) m = grows (queue_meaning (queue.Move range to) m)
-queue_takes_memory (queue.MoveId id to) m = grows (queue_meaning (queue.MoveId id to) m)
-queue_takes_memory (queue.Shuffle range) m = grows (queue_meaning (queue.Shuffle range) m)
-queue_takes_memory (queue.Swap one other) m = grows (queue_meaning (queue.Swap one other) m)
-queue_takes_memory (queue.SwapId one other) m = grows (queue_meaning (queue.SwapId one other) m)
+queue_takes_memory queue.Clear m = grows (queue_meaning all_in_mask queue.Clear m)
+queue_takes_memory (queue.Delete range) m = grows (queue_meaning all_in_mask (queue.Delete range) m)
+queue_takes_memory (queue.DeleteId id) m = grows (queue_meaning all_in_mask (queue.DeleteId id) m)
+queue_takes_memory (queue.Move range to) m = grows (queue_meaning all_in_mask (queue.Move range to) m)
+queue_takes_memory (queue.MoveId id to) m = grows (queue_meaning all_in_mask (queue.MoveId id to) m)
+queue_takes_memory (queue.Shuffle range) m = grows (queue_meaning all_in_mask (queue.Shuffle range) m)
+queue_takes_memory (queue.Swap one other) m = grows (queue_meaning all_in_mask (queue.Swap one other) m)
+queue_takes_memory (queue.SwapId one other) m = grows (queue_meaning all_in_mask (queue.SwapId one other) m)
 queue_takes_memory command m = true
 
 -- the others may remember what was played, or answer lines

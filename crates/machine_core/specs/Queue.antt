@@ -9,6 +9,7 @@ use Rattle.command_text.specs.declared.command.queue.QueueCommand.{QueueCommand}
 use Rattle.command_text.specs.declared.command.queue.QueueCommand.TheVariants as commands
 use Rattle.command_text.specs.declared.refusal.CommandRefusal.{CommandRefusal}
 use Rattle.command_text.specs.declared.refusal.CommandRefusal.TheVariants.{BadIndex, NoCurrentSong, NoSuchSong, NoSuchUri}
+use Rattle.command_text.specs.declared.tag_mask.TagMask.{TagMask}
 use Rattle.play_queue.specs.Positions.{position_of, positions_of}
 use Rattle.play_queue.specs.Queue.{QueueState, changed_since}
 use Rattle.play_queue.specs.declared.target.Target.{Target}
@@ -74,52 +75,52 @@ alone at = (at, at + 1)
 abbrev pub changed_in : QueueState → ℕ → Span → List ℕ
 changed_in queue version span = filter (holds span) (changed_since queue version)
 
-unfoldable pub queue_meaning : QueueCommand → MachineState → Meant
-queue_meaning (commands.Add uri to) m = do
+unfoldable pub queue_meaning : TagMask → QueueCommand → MachineState → Meant
+queue_meaning mask (commands.Add uri to) m = do
   rows ← numbers_named m.saved.profile m.saved.songs uri
   adds to rows [] m
-queue_meaning (commands.AddId uri to) m = do
+queue_meaning mask (commands.AddId uri to) m = do
   row ← ok_or (number_at m.saved.songs uri) NoSuchUri
   adds to (row ∷ []) (id_line m.saved.queue.next_id) m
-queue_meaning (commands.Changes version range) m = do
+queue_meaning mask (commands.Changes version range) m = do
   span ← span_or_all range (queue_length m)
-  says (flat_map (position_info m.saved) (changed_in m.saved.queue version span)) m
-queue_meaning (commands.ChangesPositions version range) m = do
+  says (flat_map (position_info mask m.saved) (changed_in m.saved.queue version span)) m
+queue_meaning mask (commands.ChangesPositions version range) m = do
   span ← span_or_all range (queue_length m)
   says (flat_map (place_info m.saved.queue.entries) (changed_in m.saved.queue version span)) m
-queue_meaning commands.Clear m = edits (Queue (Delete 0 (queue_length m))) [] m
-queue_meaning (commands.Delete range) m = do
+queue_meaning mask commands.Clear m = edits (Queue (Delete 0 (queue_length m))) [] m
+queue_meaning mask (commands.Delete range) m = do
   span ← span_in range (queue_length m)
   edits (Queue (Delete span.start span.end)) [] m
-queue_meaning (commands.DeleteId id) m = do
+queue_meaning mask (commands.DeleteId id) m = do
   at ← place_of_id id m
   edits (Queue (Delete at (at + 1))) [] m
-queue_meaning commands.Files m = says (flat_map (file_info m.saved.queue.entries) (positions_in (whole (queue_length m)))) m
-queue_meaning (commands.Info range) m = do
+queue_meaning mask commands.Files m = says (flat_map (file_info m.saved.queue.entries) (positions_in (whole (queue_length m)))) m
+queue_meaning mask (commands.Info range) m = do
   span ← span_or_all range (queue_length m)
-  says (flat_map (position_info m.saved) (positions_in span)) m
-queue_meaning (commands.InfoId None) m = says (flat_map (position_info m.saved) (positions_in (whole (queue_length m)))) m
-queue_meaning (commands.InfoId (Some id)) m = do
+  says (flat_map (position_info mask m.saved) (positions_in span)) m
+queue_meaning mask (commands.InfoId None) m = says (flat_map (position_info mask m.saved) (positions_in (whole (queue_length m)))) m
+queue_meaning mask (commands.InfoId (Some id)) m = do
   at ← place_of_id id m
-  says (position_info m.saved at) m
-queue_meaning (commands.Move range to) m = do
+  says (position_info mask m.saved at) m
+queue_meaning mask (commands.Move range to) m = do
   song ← must (can_count (Some to) (shown_of m).current) NoCurrentSong
   block ← span_in range (queue_length m)
   moves block to m
-queue_meaning (commands.MoveId id to) m = do
+queue_meaning mask (commands.MoveId id to) m = do
   at ← place_of_id id m
   moves (record { start = at; end = at + 1 }) to m
-queue_meaning (commands.Priority priority ranges) m = do
+queue_meaning mask (commands.Priority priority ranges) m = do
   spans ← spans_in ranges (queue_length m)
   edits (Queue (Prio priority spans)) [] m
-queue_meaning (commands.PriorityId priority ids) m = do
+queue_meaning mask (commands.PriorityId priority ids) m = do
   places ← places_of_ids ids m
   edits (Queue (Prio priority (map alone places))) [] m
-queue_meaning (commands.Shuffle range) m = do
+queue_meaning mask (commands.Shuffle range) m = do
   span ← span_or_all range (queue_length m)
   shuffles span m
-queue_meaning (commands.Swap one other) m = edits (Queue (Swap one other)) [] m
-queue_meaning (commands.SwapId one other) m = do
+queue_meaning mask (commands.Swap one other) m = edits (Queue (Swap one other)) [] m
+queue_meaning mask (commands.SwapId one other) m = do
   first ← place_of_id one m
   second ← place_of_id other m
   edits (Queue (Swap first second)) [] m

@@ -1,10 +1,8 @@
 -- What the output's reports mean: that frames were played, that a song has ended, that one could not be played on.
 use Rattle.std.specs.Prelude.{ℕ, [], Option, Some, None}
-use Rattle.play_queue.specs.declared.entry.Entry.{Entry}
 use Rattle.player_core.specs.Ending.{ended}
-use Rattle.player_core.specs.Order.{current_entry}
 use Rattle.player_core.specs.Player.{PlayerState}
-use Rattle.player_core.specs.Reports.{fed, broken}
+use Rattle.player_core.specs.Reports.{fed, failed}
 use Rattle.player_core.specs.declared.failure.BrokenCause.{BrokenCause}
 use Rattle.song_db.specs.Row.{Row}
 use Rattle.machine_core.specs.Changed.{changed}
@@ -34,10 +32,6 @@ when_fed ticket frames m = player_happens (fed_in (current_row m.saved m.player)
 abbrev pub when_ended : ℕ → MachineState → Happening
 when_ended ticket m = happens (steps (ended m.saved.queue.entries (settings_of m.saved) m.player ticket) m) m
 
--- the failure is that of the current song
-abbrev pub broken_in : Option Entry → ℕ → BrokenCause → PlayerState → PlayerState
-broken_in None ticket cause player = player
-broken_in (Some entry) ticket cause player = broken player ticket cause entry.uri
-
+-- what could not be played on is followed as the player follows it
 abbrev pub when_broken : ℕ → BrokenCause → MachineState → Happening
-when_broken ticket cause m = player_happens (broken_in (current_entry m.saved.queue.entries m.player.current) ticket cause m.player) m
+when_broken ticket cause m = happens (steps (failed m.saved.queue.entries (settings_of m.saved) m.player ticket cause) m) m

@@ -1,10 +1,14 @@
 -- The daemon without its clients: of it alone commands speak.
 use Rattle.std.specs.Prelude.{[], false, None}
+use Rattle.player_core.specs.declared.manners.Manners.{Manners}
+use Rattle.player_core.specs.declared.manners.Manners.TheVariants as manners
 use Rattle.player_core.specs.declared.playing.PlayState.TheVariants.{Stop}
 use Rattle.player_core.specs.declared.settings.PlaySettings.{PlaySettings}
 use Rattle.player_core.specs.declared.shown.Shown.{Shown}
 use Rattle.player_core.specs.Player.{PlayerState}
 use Rattle.player_core.specs.Shown.{shown}
+use Rattle.profile.specs.declared.profile.Profile.{Profile}
+use Rattle.profile.specs.declared.profile.Profile.TheVariants.{Named, Wide}
 use Rattle.state_codec.specs.SavedState.{SavedState}
 use Rattle.machine_core.specs.declared.job.Job.{Job}
 
@@ -15,7 +19,7 @@ pub record MachineState : Type 0 where
   pub job : Job
 
 abbrev pub idle_player : PlayerState
-idle_player = record { state = Stop; current = None; ticket = 0; frame = 0; played = []; error = None }
+idle_player = record { state = Stop; current = None; ticket = 0; frame = 0; played = []; error = None; failures = 0 }
 
 -- no job has begun yet
 abbrev pub no_job : Job
@@ -25,9 +29,14 @@ no_job = record { number = 0; place = None; opens_all = false; runs = false; has
 abbrev pub started : SavedState → MachineState
 started saved = record { saved = saved; player = idle_player; job = no_job }
 
+-- how the player goes on under a profile
+abbrev pub manners_of : Profile → Manners
+manners_of Named = manners.Named
+manners_of Wide = manners.Mpd
+
 -- what of the saved half the player goes by
 abbrev pub settings_of : SavedState → PlaySettings
-settings_of s = record { options = s.options; key = s.key; order = s.order }
+settings_of s = record { options = s.options; manners = manners_of s.profile; key = s.key; order = s.order }
 
 -- the current song and the next one
 abbrev pub shown_of : MachineState → Shown

@@ -1,4 +1,4 @@
--- The steps of the player: those that commands and the end of a song make, and what each means beside the player after it.
+-- The steps of the player: those that commands, the end of a song and its failure make, and what each means beside the player after it.
 use Rattle.std.specs.Prelude.{ℕ, ◌+◌, ◌<◌, Bool, List, [], ◌∷◌, ◌++◌, length, slice_get, option_and_then}
 use Rattle.std.specs.Prelude.{Option, Some, None, Result, Ok, Err, if◌then◌else◌}
 use Rattle.std.specs.Option.{ForSome}
@@ -7,6 +7,7 @@ use Rattle.player_core.specs.Commands.{named, played_from, resumed, next_one}
 use Rattle.player_core.specs.Ending.{ended}
 use Rattle.player_core.specs.Order.{current_entry}
 use Rattle.player_core.specs.Player.{PlayerState, Step}
+use Rattle.player_core.specs.Reports.{failed}
 use Rattle.player_core.specs.Seek.{sought}
 use Rattle.player_core.specs.declared.changes.Changes.{Changes}
 use Rattle.player_core.specs.declared.options.Single.TheVariants.{Off}
@@ -25,7 +26,7 @@ use Rattle.machine_core.specs.Meaning.{Meaning, Meant, does, order_ops, turns}
 use Rattle.machine_core.specs.State.{MachineState, settings_of}
 use Rattle.machine_core.specs.Told.{player_told}
 use Rattle.machine_core.specs.declared.steps.PlayerStep.{PlayerStep}
-use Rattle.machine_core.specs.declared.steps.PlayerStep.TheVariants.{Resume, Play, Seek, Next, Ended}
+use Rattle.machine_core.specs.declared.steps.PlayerStep.TheVariants.{Resume, Play, Seek, Next, Ended, Failed}
 
 -- what of an entry that was looked for follows, or the refusal
 abbrev pub from_named : Result ℕ PlayerError → (ℕ → Step) → Result Step PlayerError
@@ -40,6 +41,7 @@ step_of (Seek selector song milliseconds) entries settings player =
     from_named (named selector entries) (λ id. sought settings song milliseconds player id)
 step_of Next entries settings player = next_one entries settings player
 step_of (Ended ticket) entries settings player = Ok (ended entries settings player ticket)
+step_of (Failed ticket cause) entries settings player = Ok (failed entries settings player ticket cause)
 
 abbrev pub step_in : PlayerStep → MachineState → Result Step PlayerError
 step_in step m = step_of step m.saved.queue.entries (settings_of m.saved) m.player

@@ -7,7 +7,7 @@ ghost use Rattle.command_text.specs.AnswerSongs.{song_lines};
 ghost use Rattle.stickers.specs.Sticker.{stickers_of};
 ghost use Rattle.machine_core.specs.Stickers.{found_lines, song_found, song_stickers};
 
-use command_text::{NoMemory, write_directory, write_file, write_song, write_sticker};
+use command_text::{NoMemory, TagMask, write_directory, write_file, write_song, write_sticker};
 use song_db::{SongRow, Texts};
 use stickers::{Found, SongStickers, StickerValue, Stickers};
 
@@ -21,11 +21,15 @@ fn write_folders(out: &mut Vec<u8>, folders: &Texts<'_>) -> Result<(), NoMemory>
 }
 
 // Adds songs.
-pub(crate) fn write_songs(out: &mut Vec<u8>, songs: &[&SongRow]) -> Result<(), NoMemory>
-    ensures { Adds (flat_map song_lines (map (λ song. song.now) songs.now)) result out.old out.new }
+pub(crate) fn write_songs(
+    out: &mut Vec<u8>,
+    mask: TagMask,
+    songs: &[&SongRow],
+) -> Result<(), NoMemory>
+    ensures { Adds (flat_map (song_lines mask) (map (λ song. song.now) songs.now)) result out.old out.new }
 {
     for song in songs {
-        write_song(out, *song)?;
+        write_song(out, mask, *song)?;
     }
     Ok(())
 }
@@ -33,13 +37,15 @@ pub(crate) fn write_songs(out: &mut Vec<u8>, songs: &[&SongRow]) -> Result<(), N
 // Adds folders, and then songs.
 pub(crate) fn write_content(
     out: &mut Vec<u8>,
+    mask: TagMask,
     folders: &Texts<'_>,
     songs: &[&SongRow],
 ) -> Result<(), NoMemory>
-    ensures { Adds (flat_map directory_line folders.now ++ flat_map song_lines (map (λ song. song.now) songs.now)) result out.old out.new }
+    ensures { Adds (flat_map directory_line folders.now ++ flat_map (song_lines mask) (map (λ song. song.now) songs.now))
+        result out.old out.new }
 {
     write_folders(out, folders)?;
-    write_songs(out, songs)
+    write_songs(out, mask, songs)
 }
 
 fn write_named(out: &mut Vec<u8>, song: &SongStickers) -> Result<(), NoMemory>

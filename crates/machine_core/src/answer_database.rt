@@ -7,9 +7,9 @@ ghost use Rattle.profile.specs.declared.profile.Profile.TheVariants.{Wide};
 ghost use Rattle.song_db.specs.ToldWalk.{is_text, told_folders_in, told_songs_in};
 ghost use Rattle.song_db.specs.Walk.{item_of};
 ghost use Rattle.song_files.specs.TagSet.{has_tag, tags_in};
-ghost use Rattle.machine_core.specs.Database.{detail_lines, folder_line, item_lines};
+ghost use Rattle.machine_core.specs.Database.{detail_lines, folder_line, item_lines, shown_type};
 
-use command_text::{NoMemory, write_directory, write_file, write_song, write_tag_type};
+use command_text::{NoMemory, TagMask, write_directory, write_file, write_song, write_tag_type};
 use song_db::{Listed, Place, SongRow, ToldWalk, Walk};
 use song_files::{TAG_COUNT, Tag, TagSet};
 
@@ -18,25 +18,40 @@ use song_files::{TAG_COUNT, Tag, TagSet};
 pub enum Detail {
     /// Its path alone.
     Paths,
-    /// All that is known of it.
-    Songs,
+    /// All that is known of it and its client sees.
+    Songs(TagMask),
 }
 
-// Adds the names of a set's tags.
-pub(crate) fn write_tag_types(out: &mut Vec<u8>, tags: TagSet) -> Result<(), NoMemory>
-    ensures { Adds (flat_map tag_type_line (tags_in tags)) result out.old out.new }
+// Adds the names of a set's tags that the client sees.
+pub(crate) fn write_tag_types(
+    out: &mut Vec<u8>,
+    mask: TagMask,
+    tags: TagSet,
+) -> Result<(), NoMemory>
+    ensures { Adds (flat_map (shown_type mask) (tags_in tags)) result out.old out.new }
 {
     for number in 0..TAG_COUNT {
-        write_if_in(out, tags, Tag::at(number))?;
+        write_if_in(out, mask, tags, Tag::at(number))?;
     }
     Ok(())
 }
 
 // Adds the name of a tag, if the set has it.
-fn write_if_in(out: &mut Vec<u8>, tags: TagSet, tag: Tag) -> Result<(), NoMemory>
-    ensures { Adds (if has_tag tags tag then tag_type_line tag else []) result out.old out.new }
+fn write_if_in(out: &mut Vec<u8>, mask: TagMask, tags: TagSet, tag: Tag) -> Result<(), NoMemory>
+    ensures { Adds (if has_tag tags tag then shown_type mask tag else []) result out.old out.new }
 {
     if tags.contains(tag) {
+        write_shown_type(out, mask, tag)
+    } else {
+        Ok(())
+    }
+}
+
+// Adds the name of a tag, if the client sees it.
+fn write_shown_type(out: &mut Vec<u8>, mask: TagMask, tag: Tag) -> Result<(), NoMemory>
+    ensures { Adds (shown_type mask tag) result out.old out.new }
+{
+    if mask.contains(tag) {
         write_tag_type(out, tag)
     } else {
         Ok(())
@@ -49,7 +64,7 @@ pub(crate) fn write_detail(out: &mut Vec<u8>, row: &SongRow, detail: Detail) -> 
 {
     match detail {
         Detail::Paths => write_file(out, row.uri()),
-        Detail::Songs => write_song(out, row),
+        Detail::Songs(mask) => write_song(out, mask, row),
     }
 }
 
@@ -106,14 +121,19 @@ pub(crate) fn write_below(
 }
 
 // Adds the songs right in a place, of those under it.
-fn write_songs_in(out: &mut Vec<u8>, rows: &[SongRow], place: Place<'_>) -> Result<(), NoMemory>
-    ensures { Adds (flat_map song_lines (told_songs_in place.entry rows.now)) result out.old out.new }
+fn write_songs_in(
+    out: &mut Vec<u8>,
+    mask: TagMask,
+    rows: &[SongRow],
+    place: Place<'_>,
+) -> Result<(), NoMemory>
+    ensures { Adds (flat_map (song_lines mask) (told_songs_in place.entry rows.now)) result out.old out.new }
 {
     for row in rows {
         if place.folder_of(row.uri()).is_some() {
             continue;
         }
-        write_song(out, row)?;
+        write_song(out, mask, row)?;
     }
     Ok(())
 }
@@ -149,12 +169,13 @@ fn write_folders_in(out: &mut Vec<u8>, rows: &[SongRow], place: Place<'_>) -> Re
 // Adds the songs right in a place and then the folders, of the songs under it.
 pub(crate) fn write_told_content(
     out: &mut Vec<u8>,
+    mask: TagMask,
     rows: &[SongRow],
     place: Place<'_>,
 ) -> Result<(), NoMemory>
-    ensures { Adds (flat_map song_lines (told_songs_in place.entry rows.now) ++ flat_map directory_line (told_folders_in place.entry
-        rows.now)) result out.old out.new }
+    ensures { Adds (flat_map (song_lines mask) (told_songs_in place.entry rows.now) ++ flat_map directory_line (told_folders_in
+        place.entry rows.now)) result out.old out.new }
 {
-    write_songs_in(out, rows, place)?;
+    write_songs_in(out, mask, rows, place)?;
     write_folders_in(out, rows, place)
 }

@@ -6,33 +6,39 @@ ghost use Rattle.machine_core.specs.Entries.{file_info, place_info, position_inf
 ghost use Rattle.machine_core.specs.Spans.{positions_in};
 
 use crate::span::Span;
-use command_text::{NoMemory, write_entry, write_numbered_file, write_place};
+use command_text::{NoMemory, TagMask, write_entry, write_numbered_file, write_place};
 use play_queue::Entries;
 use state_codec::Saved;
 
 // Adds the entry at a position, if one stands there.
 pub(crate) fn write_position(
     out: &mut Vec<u8>,
+    mask: TagMask,
     saved: &Saved,
     position: usize,
 ) -> Result<(), NoMemory>
-    ensures { Adds (position_info saved.now position) result out.old out.new }
+    ensures { Adds (position_info mask saved.now position) result out.old out.new }
 {
     let Some(entry) = saved.queue().get(position) else {
         return Ok(());
     };
     match saved.songs().row_of(entry.uri) {
-        Ok(row) => write_entry(out, row, position, &entry),
+        Ok(row) => write_entry(out, mask, row, position, &entry),
         Err(_) => Ok(()),
     }
 }
 
 // Adds the entries at the positions of a span.
-pub(crate) fn write_span(out: &mut Vec<u8>, saved: &Saved, span: Span) -> Result<(), NoMemory>
-    ensures { Adds (flat_map (position_info saved.now) (positions_in span)) result out.old out.new }
+pub(crate) fn write_span(
+    out: &mut Vec<u8>,
+    mask: TagMask,
+    saved: &Saved,
+    span: Span,
+) -> Result<(), NoMemory>
+    ensures { Adds (flat_map (position_info mask saved.now) (positions_in span)) result out.old out.new }
 {
     for position in span.start..span.end {
-        write_position(out, saved, position as usize)?;
+        write_position(out, mask, saved, position as usize)?;
     }
     Ok(())
 }
@@ -40,13 +46,14 @@ pub(crate) fn write_span(out: &mut Vec<u8>, saved: &Saved, span: Span) -> Result
 // Adds the entries at these positions.
 pub(crate) fn write_positions(
     out: &mut Vec<u8>,
+    mask: TagMask,
     saved: &Saved,
     positions: &[usize],
 ) -> Result<(), NoMemory>
-    ensures { Adds (flat_map (position_info saved.now) positions.now) result out.old out.new }
+    ensures { Adds (flat_map (position_info mask saved.now) positions.now) result out.old out.new }
 {
     for position in positions {
-        write_position(out, saved, *position)?;
+        write_position(out, mask, saved, *position)?;
     }
     Ok(())
 }

@@ -6,7 +6,7 @@ ghost use Rattle.command_text.specs.AnswerSongs.{file_line};
 ghost use Rattle.machine_core.specs.Database.{root_lists};
 ghost use Rattle.machine_core.specs.Lists.{name_lines, song_info};
 
-use command_text::{NoMemory, write_file, write_playlist, write_song};
+use command_text::{NoMemory, TagMask, write_file, write_playlist, write_song};
 use profile::Profile;
 use song_db::{Place, SongDb, Uri};
 use stored_lists::Lists;
@@ -38,13 +38,14 @@ pub(crate) fn write_uris(out: &mut Vec<u8>, songs: &[Uri]) -> Result<(), NoMemor
 // Adds the lines of each song, or its URI alone where the song is gone.
 pub(crate) fn write_song_infos(
     out: &mut Vec<u8>,
+    mask: TagMask,
     database: &SongDb,
     songs: &[Uri],
 ) -> Result<(), NoMemory>
-    ensures { Adds (flat_map (song_info database.now) songs.now) result out.old out.new }
+    ensures { Adds (flat_map (song_info mask database.now) songs.now) result out.old out.new }
 {
     for uri in songs {
-        write_song_info(out, database, uri.as_str())?;
+        write_song_info(out, mask, database, uri.as_str())?;
     }
     Ok(())
 }
@@ -67,11 +68,16 @@ pub(crate) fn write_root_lists(
     }
 }
 
-fn write_song_info(out: &mut Vec<u8>, database: &SongDb, uri: &str) -> Result<(), NoMemory>
-    ensures { Adds (song_info database.now uri.now) result out.old out.new }
+fn write_song_info(
+    out: &mut Vec<u8>,
+    mask: TagMask,
+    database: &SongDb,
+    uri: &str,
+) -> Result<(), NoMemory>
+    ensures { Adds (song_info mask database.now uri.now) result out.old out.new }
 {
     match database.get(uri) {
-        Ok(row) => write_song(out, row),
+        Ok(row) => write_song(out, mask, row),
         Err(_) => write_file(out, uri),
     }
 }

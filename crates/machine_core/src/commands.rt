@@ -9,7 +9,7 @@ ghost use Rattle.machine_core.specs.Work.{HasRoom, Performs, command_room};
 use crate::looks::Looks;
 use crate::machine::Machine;
 use crate::work::{Failure, Work};
-use command_text::Command;
+use command_text::{Command, TagMask};
 use idle_masks::Subsystems;
 use std::alloc::Global;
 
@@ -25,20 +25,22 @@ mod status;
 mod sticker;
 
 impl Machine {
-    /// Performs a command, for whose end the answer has room, and says which subsystems it changed. One by which the request would look at
-    /// more than it may is refused before it looks at anything. Refused, or without memory, it leaves machine and answer as they were.
+    /// Performs a command of a client that sees these tags, for whose end the answer has room, and says which subsystems it changed. One by
+    /// which the request would look at more than it may is refused before it looks at anything. Refused, or without memory, it leaves
+    /// machine and answer as they were.
     ///
     /// Memory is taken for the lines of a command, with the room behind them, for what it looks up and for what it changes; `NoMemory`
     /// comes of no command that does nothing of these.
     pub fn perform(
         &mut self,
         alloc: Global,
+        mask: TagMask,
         command: Command<'_>,
         work: &mut Work,
         looks: &mut Looks,
     ) -> Result<Subsystems, Failure>
         requires room { HasRoom command_room work.old }
-        ensures performs { Performs (weighed looks.old (looks_of command.entry self.old) (meaning command.entry self.old))
+        ensures performs { Performs (weighed looks.old (looks_of command.entry self.old) (meaning mask command.entry self.old))
             self.old self.new work.old work.new result }
         ensures looks { looks.new ≡ looked looks.old (looks_of command.entry self.old) }
         ensures changed { IfOk result (λ set. set ≡ changed self.old self.new) }
@@ -47,7 +49,7 @@ impl Machine {
         looks.take(self.looks_of(&command))?;
         let before = self.before();
         let made = work.ops.len();
-        self.dispatch(alloc, command, work)?;
+        self.dispatch(alloc, mask, command, work)?;
         Ok(self.changed_since(&before, &work.ops[made..]))
     }
 
@@ -56,21 +58,22 @@ impl Machine {
     fn dispatch(
         &mut self,
         alloc: Global,
+        mask: TagMask,
         command: Command<'_>,
         work: &mut Work,
     ) -> Result<(), Failure>
         requires { HasRoom command_room work.old }
-        ensures performs { Performs (meaning command.entry self.old) self.old self.new work.old work.new result }
+        ensures performs { Performs (meaning mask command.entry self.old) self.old self.new work.old work.new result }
         ensures memory { result ≡ Err Failure.NoMemory → takes_memory command.entry self.old ≡ true }
     {
         match command {
             Command::Settings(command) => self.perform_settings(alloc, command, work),
-            Command::Database(command) => self.perform_database(alloc, command, work),
-            Command::Queue(command) => self.perform_queue(alloc, command, work),
-            Command::Finding(command) => self.perform_finding(alloc, command, work),
-            Command::Lists(command) => self.perform_lists(alloc, command, work),
+            Command::Database(command) => self.perform_database(alloc, mask, command, work),
+            Command::Queue(command) => self.perform_queue(alloc, mask, command, work),
+            Command::Finding(command) => self.perform_finding(alloc, mask, command, work),
+            Command::Lists(command) => self.perform_lists(alloc, mask, command, work),
             Command::Stickers(command) => self.perform_stickers(alloc, command, work),
-            Command::Playing(command) => self.perform_playing(alloc, command, work),
+            Command::Playing(command) => self.perform_playing(alloc, mask, command, work),
             Command::Session(_) => Ok(()),
             Command::Setup(command) => self.perform_setup(command, work),
         }

@@ -2,9 +2,9 @@
 ghost use Rattle.std.specs.Prelude.{◌≡◌, ◌+◌, ◌<◌, ◌≤◌, OnErr, OnOk, IfErr, length};
 ghost use Rattle.std.specs.Option.{option_copied};
 ghost use Rattle.command_text.specs.declared.refusal.CommandRefusal.TheVariants.{RequestTooLarge};
-ghost use Rattle.machine_core.specs.Looks.{alone_looks, arranged, choice_looks, database_looks, finding_looks, leaving_looks};
-ghost use Rattle.machine_core.specs.Looks.{list_looks, lists_looks, looks_of, max_looks, moved_looks, parted, queue_looks, search_looks};
-ghost use Rattle.machine_core.specs.Looks.{settings_looks, stickers_looks, values_looks};
+ghost use Rattle.machine_core.specs.Looks.{alone_looks, arranged, choice_looks, database_looks, finding_looks, groups_looks};
+ghost use Rattle.machine_core.specs.Looks.{leaving_looks, list_looks, lists_looks, looks_of, max_looks, moved_looks, parted, queue_looks};
+ghost use Rattle.machine_core.specs.Looks.{search_looks, settings_looks, stickers_looks, values_looks};
 ghost use Rattle.machine_core.specs.Lists.{songs_named};
 ghost use Rattle.machine_core.specs.Queue.{place_of_id};
 
@@ -20,6 +20,9 @@ use std::marker::Model;
 
 /// The commands of one request look at so much at most; docs/PROTOCOL.md says what counts how much.
 pub const MAX_LOOKS: u64 = 10_000_000;
+
+// There are no more tags, and none stands twice in a `list`.
+const MOST_TAGS: usize = 31;
 
 /// How much the commands of a request have looked at so far.
 #[derive(Debug, Drop)]
@@ -207,6 +210,17 @@ impl Machine {
         }
     }
 
+    // Of so many tags, each within the values of the tag before.
+    fn groups_looks(&self, tags: u8, filter: Option<&Filter>) -> u64
+        requires { tags ≤ 31 }
+        ensures { result ≡ groups_looks tags (option_copied filter.entry) self.now }
+    {
+        match filter {
+            None => 10 * (u64::from(tags) * self.row_count()),
+            Some(filter) => 10 * filter.looks(self.saved.songs(), Case::Exact, 3 + tags),
+        }
+    }
+
     fn finding_looks(&self, command: &FindingCommand<'_>) -> u64
         ensures { result ≡ finding_looks command.now self.now }
     {
@@ -218,11 +232,16 @@ impl Machine {
             FindingCommand::Count(filter) => {
                 10 * filter.looks(self.saved.songs(), Case::Exact, 1)
             }
+            FindingCommand::CountGroups(_, filter) => self.values_looks(filter.as_ref()),
             FindingCommand::Find(search) => self.search_looks(search),
             FindingCommand::InQueue(_, filter) => {
                 10 * ((u64::from(filter.tests()) + 1) * self.entry_count())
             }
             FindingCommand::ListFiles(filter) => self.values_looks(filter.as_ref()),
+            FindingCommand::ListGroups(tags, filter) => {
+                let tags = tags.as_slice().len().min(MOST_TAGS) as u8;
+                self.groups_looks(tags, filter.as_ref())
+            }
             FindingCommand::ListTag(_, filter) => self.values_looks(filter.as_ref()),
         }
     }

@@ -1,12 +1,23 @@
 // A machine: the saved half of the state, the player over it, and the scan that runs.
 ghost use Rattle.std.specs.Prelude.{◌≡◌};
-ghost use Rattle.machine_core.specs.State.{started};
+ghost use Rattle.machine_core.specs.State.{manners_of, started};
 
 use crate::job::Job;
-use player_core::{KeptNext, PlaySettings, Player};
+use player_core::{KeptNext, Manners, PlaySettings, Player};
+use profile::Profile;
 use state_codec::Saved;
 use std::alloc::Global;
 use std::marker::Model;
+
+// How the player goes on under a profile.
+fn manners_of(profile: Profile) -> Manners
+    ensures { result ≡ manners_of profile }
+{
+    match profile {
+        Profile::Named => Manners::Named,
+        Profile::Wide => Manners::Mpd,
+    }
+}
 
 /// The daemon without its clients: the half that is saved, the player, and the job of the database.
 #[derive(Drop)]
@@ -70,6 +81,7 @@ impl Machine {
     {
         PlaySettings {
             options: self.saved.options(),
+            manners: manners_of(self.saved.profile()),
             key: self.saved.key(),
             order: self.saved.order(),
         }

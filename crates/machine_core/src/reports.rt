@@ -1,11 +1,10 @@
 // What the output is to do, and what it reports of the song that it plays.
-ghost use Rattle.std.specs.Prelude.{◌≡◌, [], IfOk, OnErr, OnOk};
-ghost use Rattle.player_core.specs.Order.{current_entry, order_of};
+ghost use Rattle.std.specs.Prelude.{◌≡◌, IfOk, OnErr};
+ghost use Rattle.player_core.specs.Order.{order_of};
 ghost use Rattle.machine_core.specs.Followed.{current_row};
 ghost use Rattle.machine_core.specs.Happening.{HasHappened};
-ghost use Rattle.machine_core.specs.Reports.{fed_in, broken_in, when_fed, when_ended, when_broken};
+ghost use Rattle.machine_core.specs.Reports.{fed_in, when_fed, when_ended, when_broken};
 
-use crate::current::current_entry;
 use crate::happened::Happened;
 use crate::machine::Machine;
 use crate::steps::PlayerStep;
@@ -81,27 +80,18 @@ impl Machine {
         ensures err { OnErr result (self.new ≡ self.old) }
     {
         let before = self.before();
-        self.break_off(alloc, ticket, cause)?;
-        let changed = self.changed_since(&before, &[]);
+        let mut work = Work::new(alloc, self.saved.profile())?;
+        work.make_room()?;
+        if self
+            .make_step(alloc, PlayerStep::Failed(ticket, cause), &mut work)
+            .is_err()
+        {
+            return Err(NoMemory);
+        }
+        let changed = self.changed_since(&before, &work.ops);
         Ok(Happened {
-            ops: Vec::new(alloc),
+            ops: work.ops,
             changed,
         })
-    }
-
-    fn break_off(&mut self, alloc: Global, ticket: u64, cause: BrokenCause) -> Result<(), NoMemory>
-        ensures ok { OnOk result (self.new ≡ record self.old {
-          player = broken_in (current_entry self.old.saved.queue.entries self.old.player.current) ticket cause self.old.player;
-        }) }
-        ensures err { OnErr result (self.new ≡ self.old) }
-    {
-        let entries = self.saved.queue().entries();
-        let Some(entry) = current_entry(entries, self.player.current()) else {
-            return Ok(());
-        };
-        match self.player.broken(alloc, ticket, cause, entry.uri.as_uri()) {
-            Ok(()) => Ok(()),
-            Err(_) => Err(NoMemory),
-        }
     }
 }

@@ -14,7 +14,7 @@ use crate::step_ops::{bytes_of, make_changes};
 use crate::told::failure_of;
 use crate::work::{Failure, MAX_REQUEST_BYTES, Work};
 use play_queue::Entries;
-use player_core::{Changes, PlaySettings, Player, PlayerError, Selector, SongLength};
+use player_core::{BrokenCause, Changes, PlaySettings, Player, PlayerError, Selector, SongLength};
 use std::alloc::Global;
 
 /// The ops of one step take at most so many bytes.
@@ -31,6 +31,8 @@ pub enum PlayerStep {
     Next,
     /// The song that was started under this ticket has ended.
     Ended(u64),
+    /// The song that was started under this ticket could not be played on.
+    Failed(u64, BrokenCause),
 }
 
 // The player makes the step.
@@ -52,6 +54,7 @@ fn take_step(
         }
         PlayerStep::Next => player.next(entries, settings),
         PlayerStep::Ended(ticket) => player.ended(entries, settings, ticket),
+        PlayerStep::Failed(ticket, cause) => player.failed(entries, settings, ticket, cause),
     }
 }
 

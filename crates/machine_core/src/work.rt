@@ -11,7 +11,7 @@ use std::alloc::{AllocError, AllocFailed, Global};
 pub const MAX_REQUEST_BYTES: usize = 2_097_152;
 
 /// No client gets an answer of more bytes: whatever makes it longer is the last that is done of its request.
-const LONGEST_ANSWER: usize = 8_388_608;
+pub(crate) const LONGEST_ANSWER: usize = 8_388_608;
 
 /// Room for `list_OK` and the longest `ACK` line of want of memory behind it.
 const COMMAND_ROOM: usize = 72;

@@ -3,6 +3,7 @@
 
 mod ending;
 mod ends;
+mod failures;
 mod job_folder;
 mod jobs;
 mod life;

@@ -4,6 +4,7 @@ ghost use Rattle.std.specs.Thread.{IsSend, IsSync};
 
 use crate::ending::{Life, ServeStatus};
 use crate::ends::Ends;
+use crate::failures::{NotedFolder, Opening, ToldWake};
 use crate::jobs::Jobs;
 use crate::looping::{Turns, run_loop};
 use crate::tally::TalliedFolder;
@@ -21,6 +22,7 @@ use stage_workers::{
     Blanks, Kind, Pass, PassesSpent, SharedStage, Wake, Worker, player_worker, scan_worker,
 };
 use std::alloc::Global;
+use std::cell::Cell;
 use std::io::Write;
 use std::marker::Brand;
 use std::sync::Wait;
@@ -101,24 +103,40 @@ impl<C: Ledger, P: Ledger, S: Ledger, F: Drop, G: Drop, W: Drop> Worked<C, P, S,
 }
 
 // The player's thread. It hands back what it was given.
-fn play<D: Disk, C: Ledger, P: Ledger, S: Ledger, F: Folder, W: Write, K: Wake, R: Wait + Clock>(
+fn play<
+    D: Disk,
+    C: Ledger,
+    P: Ledger,
+    S: Ledger,
+    F: Folder,
+    W: Write,
+    K: Wake,
+    R: Wait + Clock + Log,
+>(
     rt: &R,
     alloc: Global,
     stage: &SharedStage<D, C, P, S>,
-    (wake, ends): (&K, &Ends),
+    (wake, ends, profile): (&K, &Ends, Profile),
     pass: Pass<C, P, S>,
-    mut sources: F,
+    sources: F,
     mut output: SoundOutput<W>,
 ) -> Played<C, P, S, F, W> {
+    let opening = Cell::new(Opening::Opened);
+    let told = ToldWake::new(rt, wake, profile, &opening);
     let worker = Worker {
         rt,
         alloc,
         stage,
-        wake,
+        wake: &told,
     };
-    let pass = player_worker(&worker, pass, &OpenGate, &mut sources, &mut output);
+    let mut noted = NotedFolder {
+        files: sources,
+        opening: &opening,
+    };
+    let pass = player_worker(&worker, pass, &OpenGate, &mut noted, &mut output);
     ends.player_ended(rt);
-    (pass, sources, output)
+    let NotedFolder { files, opening: _ } = noted;
+    (pass, files, output)
 }
 
 // The scan's thread. It hands back what it was given.
@@ -154,13 +172,13 @@ fn start_player<
     F: Folder + Send + Drop + 's,
     W: Write + Send + Drop + 's,
     K: Wake + Sync + 's,
-    R: Wait + Clock + Sync + 's,
+    R: Wait + Clock + Log + Sync + 's,
 >(
     scope: &Scope<'s, E>,
     rt: &'s R,
     alloc: Global,
     stage: &'s SharedStage<D, C, P, S>,
-    (wake, ends): (&'s K, &'s Ends),
+    (wake, ends, profile): (&'s K, &'s Ends, Profile),
     pass: Pass<C, P, S>,
     sources: F,
     output: SoundOutput<W>,
@@ -168,7 +186,15 @@ fn start_player<
 where
     F::File: Send,
 {
-    let thread = move || play(rt, alloc, stage, (wake, ends), pass, sources, output);
+    let thread = move || play(
+        rt,
+        alloc,
+        stage,
+        (wake, ends, profile),
+        pass,
+        sources,
+        output,
+    );
     scope.spawn(thread).ok()
 }
 
@@ -254,7 +280,17 @@ where
                 player,
                 scan,
             } = passes;
-            let player = start_player(scope, rt, alloc, stage, wake, player, sources, output);
+            let (waker, ends) = wake;
+            let player = start_player(
+                scope,
+                rt,
+                alloc,
+                stage,
+                (waker, ends, profile),
+                player,
+                sources,
+                output,
+            );
             let scan = start_scan(scope, rt, alloc, stage, wake, scan, folder, orders);
             let (turns, mine) = if player.is_some() && scan.is_some() {
                 run_loop(rt, alloc, profile, stage, mine, clients, jobs)

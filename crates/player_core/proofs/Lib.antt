@@ -8,3 +8,4 @@ pub mod DrawnIds
 pub mod RoundIds
 pub mod Rounds
 pub mod MadeWords
+pub mod BadSongs

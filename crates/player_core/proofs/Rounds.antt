@@ -12,6 +12,7 @@ use Rattle.play_queue.specs.Queue.{HaveOwnIds, ids_of}
 use Rattle.player_core.specs.declared.block.Block.{Block}
 use Rattle.player_core.specs.declared.choice.Choice.{Choice}
 use Rattle.player_core.specs.declared.failure.PlayFailure.{PlayFailure}
+use Rattle.player_core.specs.declared.manners.Manners.{Manners}
 use Rattle.player_core.specs.declared.options.Options.{Options}
 use Rattle.player_core.specs.declared.options.Single.TheVariants.{Off}
 use Rattle.player_core.specs.declared.playing.PlayState.{PlayState}
@@ -94,11 +95,11 @@ module _ (key : List ℕ) (order : ℕ) where
       ∙ ap (λ l. list_any (eqb id) l) (sym (ids-drawn entries)) ∙ sym (in_order-any (eqb id) (drawn entries)) ∙ is
 
   -- a song plays, and these were played
-  abbrev in_play : List Entry → List ℕ → ℕ → ℕ → ℕ → Option PlayFailure → Playback
-  in_play entries played id ticket frame error = record {
+  abbrev in_play : Manners → List Entry → List ℕ → ℕ → ℕ → ℕ → Option PlayFailure → Playback
+  in_play manners entries played id ticket frame error = record {
     entries = entries;
-    settings = record { options = random_alone; key = key; order = order };
-    player = record { state = Play; current = Some id; ticket = ticket; frame = frame; played = played; error = error };
+    settings = record { options = random_alone; manners = manners; key = key; order = order };
+    player = record { state = Play; current = Some id; ticket = ticket; frame = frame; played = played; error = error; failures = 0 };
   }
 
   abbrev step_to : PlayerState → Choice → Step
@@ -108,11 +109,11 @@ module _ (key : List ℕ) (order : ℕ) where
   }
 
   -- the end of a song starts the first one that is left
-  module _ (entries : List Entry) (played rest : List ℕ) (id ticket frame : ℕ) (error : Option PlayFailure)
+  module _ (manners : Manners) (entries : List Entry) (played rest : List ℕ) (id ticket frame : ℕ) (error : Option PlayFailure)
       (own : IsDistinct nat_eq (round_of key order entries)) (is : round_of key order entries ≡ played ++ rest)
       (here : list_any (eqb id) played ≡ true) where
     abbrev now : Playback
-    now = in_play entries played id ticket frame error
+    now = in_play manners entries played id ticket frame error
 
     abbrev at : ℕ
     at = position_or_len (λ entry. entry.id == id) entries
@@ -137,16 +138,16 @@ module _ (key : List ℕ) (order : ℕ) where
         ∙ ap (λ choice. after now (step_to now.player choice)) next
 
   -- so what is left plays
-  plays_rest : (entries : List Entry) (played rest : List ℕ) (id ticket frame : ℕ) (error : Option PlayFailure)
+  plays_rest : (manners : Manners) (entries : List Entry) (played rest : List ℕ) (id ticket frame : ℕ) (error : Option PlayFailure)
       → IsDistinct nat_eq (round_of key order entries) → round_of key order entries ≡ played ++ rest
-      → list_any (eqb id) played ≡ true → PlaysOut entries rest (after_end (in_play entries played id ticket frame error))
-  plays_rest entries played [] id ticket frame error own is here =
-      subst (PlaysOut entries []) (sym (goes_on entries played [] id ticket frame error own is here)) (refl, (refl, refl))
-  plays_rest entries played (next ∷ rest) id ticket frame error own is here =
-      subst (PlaysOut entries (next ∷ rest)) (sym (goes_on entries played (next ∷ rest) id ticket frame error own is here)) (
+      → list_any (eqb id) played ≡ true → PlaysOut entries rest (after_end (in_play manners entries played id ticket frame error))
+  plays_rest manners entries played [] id ticket frame error own is here =
+      subst (PlaysOut entries []) (sym (goes_on manners entries played [] id ticket frame error own is here)) (refl, (refl, refl))
+  plays_rest manners entries played (next ∷ rest) id ticket frame error own is here =
+      subst (PlaysOut entries (next ∷ rest)) (sym (goes_on manners entries played (next ∷ rest) id ticket frame error own is here)) (
         refl,
         (refl, refl),
-        plays_rest entries (without next played ++ next ∷ []) rest next (next_ticket ticket) 0 None own
+        plays_rest manners entries (without next played ++ next ∷ []) rest next (next_ticket ticket) 0 None own
             (is ∙ sym (append_assoc played (next ∷ []) rest) ∙ ap (λ l. (l ++ next ∷ []) ++ rest) (sym kept))
             (any-last next (without next played)),
       )
@@ -157,19 +158,19 @@ module _ (key : List ℕ) (order : ℕ) where
 abbrev stopped_now : List Entry → PlaySettings → PlayerState → Playback
 stopped_now entries settings player = record { entries = entries; settings = settings; player = player }
 
-abbrev settings_of : Options → List ℕ → ℕ → PlaySettings
-settings_of options key order = record { options = options; key = key; order = order }
+abbrev settings_of : Options → Manners → List ℕ → ℕ → PlaySettings
+settings_of options manners key order = record { options = options; manners = manners; key = key; order = order }
 
 abbrev player_in : PlayState → Option ℕ → PlayerState → PlayerState
 player_in state current player = record player { state = state; current = current }
 
-begins : (entries : List Entry) (key : List ℕ) (order : ℕ) (player : PlayerState) → HaveOwnIds entries
+begins : (manners : Manners) (entries : List Entry) (key : List ℕ) (order : ℕ) (player : PlayerState) → HaveOwnIds entries
     → PlaysOut entries (round_of key (next_order order) entries)
-    (after_play (stopped_now entries (settings_of random_alone key order) (player_in Stop None player)))
-begins entries key order player own = of (round_of key (next_order order) entries) refl
+    (after_play (stopped_now entries (settings_of random_alone manners key order) (player_in Stop None player)))
+begins manners entries key order player own = of (round_of key (next_order order) entries) refl
   where
     now : Playback
-    now = stopped_now entries (settings_of random_alone key order) (player_in Stop None player)
+    now = stopped_now entries (settings_of random_alone manners key order) (player_in Stop None player)
 
     started_by : Option ℕ → Playback
     started_by id = after now (stepped_if_any true now.player (new_round (next_order order) id) (new_round (next_order order) id).id)
@@ -180,7 +181,7 @@ begins entries key order player own = of (round_of key (next_order order) entrie
     of (id ∷ ids) is = subst (λ l. PlaysOut entries (id ∷ ids) (started_by (first_of l))) (sym is) (
       refl,
       (refl, refl),
-      plays_rest key (next_order order) entries (id ∷ []) ids id (next_ticket player.ticket) 0 None
+      plays_rest key (next_order order) manners entries (id ∷ []) ids id (next_ticket player.ticket) 0 None
           (round-distinct key (next_order order) entries own) is (any-last id []),
     )
 
@@ -189,9 +190,9 @@ plays_in_random_order now own alone stopped =
     subst (λ options. out options now.player.state now.player.current) (sym alone)
     (subst (λ state. out random_alone state now.player.current) (sym stopped.0)
     (subst (λ current. out random_alone Stop current) (sym stopped.1)
-    (begins now.entries now.settings.key now.settings.order now.player own)))
+    (begins now.settings.manners now.entries now.settings.key now.settings.order now.player own)))
   where
     out : Options → PlayState → Option ℕ → Type 0
     out options state current = PlaysOut now.entries (round_of now.settings.key (next_order now.settings.order) now.entries)
-        (after_play (stopped_now now.entries (settings_of options now.settings.key now.settings.order)
+        (after_play (stopped_now now.entries (settings_of options now.settings.manners now.settings.key now.settings.order)
         (player_in state current now.player)))

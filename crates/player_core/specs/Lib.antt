@@ -10,6 +10,7 @@ pub mod Commands
 pub mod Seek
 pub mod Reports
 pub mod Round
+pub mod BadSongs
 pub mod Shown
 pub mod Order
 pub mod Answered

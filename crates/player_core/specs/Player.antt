@@ -13,7 +13,8 @@ use Rattle.player_core.specs.declared.playing.Playing.{Playing}
 use Rattle.player_core.specs.Staying.{takes}
 
 -- stop, play or pause; the id of the current entry; the ticket of the last start or seek; the frame position;
--- the ids that were started in this random round, by their last start; the error
+-- the ids that were started in this random round, by their last start; the error; how many entries in a row could not be read, up to
+-- the present one
 pub record PlayerState : Type 0 where
   pub state : PlayState
   pub current : Option ℕ
@@ -21,6 +22,7 @@ pub record PlayerState : Type 0 where
   pub frame : ℕ
   pub played : List ℕ
   pub error : Option PlayFailure
+  pub failures : ℕ
 
 -- the player, and what it changes of the saved half
 pub record Step : Type 0 where
@@ -35,6 +37,7 @@ player_of playing played = record {
   frame = playing.frame;
   played = played;
   error = playing.error;
+  failures = playing.failures;
 }
 
 abbrev pub no_changes : Changes
@@ -54,7 +57,7 @@ without id played = remove_key (λ other. id == other) played
 abbrev pub noted : Bool → ℕ → List ℕ → List ℕ
 noted random id played = if random then without id played ++ id ∷ [] else played
 
--- a started song has a new ticket and frame 0, and clears the error
+-- a started song has a new ticket and frame 0, and clears the error and the failures before it
 abbrev pub started : Bool → PlayerState → ℕ → PlayerState
 started random player id = record {
   state = Play;
@@ -63,6 +66,7 @@ started random player id = record {
   frame = 0;
   played = noted random id player.played;
   error = None;
+  failures = 0;
 }
 
 -- the song stays current

@@ -55,6 +55,7 @@ pub(crate) fn start(playing: &mut Playing, played: &mut IndexSet<u32>, random: b
     playing.ticket = next_ticket(playing.ticket);
     playing.frame = 0;
     playing.error = None;
+    playing.failures = 0;
 }
 
 // Stops without a current song.

@@ -10,6 +10,7 @@ use std::alloc::{AllocError, Global};
 use std::marker::Model;
 
 mod ending;
+mod failing;
 mod following;
 mod ordering;
 mod reading;
@@ -43,7 +44,7 @@ impl Model for Player {
 impl Player {
     /// Stopped, with no current song, and nothing played. It takes no memory yet.
     pub fn new(alloc: Global) -> Player
-        ensures { result ≡ record { state = Stop; current = None; ticket = 0; frame = 0; played = []; error = None } }
+        ensures { result ≡ record { state = Stop; current = None; ticket = 0; frame = 0; played = []; error = None; failures = 0 } }
     {
         Player {
             playing: Playing {
@@ -52,6 +53,7 @@ impl Player {
                 ticket: 0,
                 frame: 0,
                 error: None,
+                failures: 0,
             },
             played: IndexSet::new(alloc),
             words: WordTable::new(alloc, [0; 32], 0),
@@ -73,6 +75,7 @@ impl Player {
                 ticket: self.playing.ticket,
                 frame: self.playing.frame,
                 error,
+                failures: self.playing.failures,
             },
             played: self.played.clone()?,
             words: WordTable::new(alloc, [0; 32], 0),

@@ -17,4 +17,6 @@ pub struct Playing {
     pub ticket: u64,
     pub frame: u64,
     pub error: Option<PlayFailure>,
+    // How many entries in a row could not be read, up to the present one.
+    pub failures: usize,
 }

@@ -98,7 +98,10 @@ pub fn play_once<
         Ok(Piece::Written { frames, is_last }) => {
             report_written(worker, pass, ticket, frames, is_last)
         }
-        Ok(Piece::Failed(cause)) => worker.report(pass, &Report::Broken { ticket, cause }),
+        Ok(Piece::Failed(cause)) => {
+            worker.wake.cannot_play(order.uri.as_str(), cause);
+            worker.report(pass, &Report::Broken { ticket, cause })
+        }
         Err(_) => Err((StageError::NoMemory, pass)),
     }
 }

@@ -19,6 +19,9 @@ const PAUSE: u64 = 1;
 /// Who is to be told that a worker has made an event, as a loop that waits for clients: the event may have left something for them.
 pub trait Wake {
     fn wake(&self);
+
+    /// The song at a URI could not be played on. It is said before the event is made.
+    fn cannot_play(&self, _uri: &str, _cause: BrokenCause) {}
 }
 
 /// Nobody is told.

@@ -1,5 +1,6 @@
 -- What is read of requests that are spelled anew.
-use Rattle.std.proofs.Common.{◌≡◌, ℕ, ◌==◌, Bool, true, false, cond, List, [], ◌∷◌, ◌++◌, codes, Some, inl, inr, refl, sym, ◌∙◌, ap, subst, arith}
+use Rattle.std.proofs.Common.{◌≡◌, ℕ, ◌==◌, Bool, true, false, cond, List, [], ◌∷◌, ◌++◌, codes, Some, inl, inr, refl, sym, ◌∙◌, ap, subst}
+use Rattle.std.proofs.Common.{arith}
 use Rattle.std.specs.List.{flat_map, AllByRecursion}
 use Rattle.std.specs.Str.{chars, is_utf8}
 use lib.Utf8.{encode}
@@ -186,5 +187,5 @@ asked_again stream =
     ap (requests_in Outside) (taken_again asks (all_fit asks read.0 read.3 front)) ∙ sym (read_again asks (stream_of_lines stream))
 
 pub native_asked : (stream : List ℕ) → AreNative (requests_of stream)
-    → requests_of (asked_all false (requests_of stream)).native ≡ requests_of stream
+    → requests_of (asked_all (requests_of stream)).native ≡ requests_of stream
 native_asked stream native = ap requests_of (all_go_on (requests_of stream) native).native ∙ asked_again stream

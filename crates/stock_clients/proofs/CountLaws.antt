@@ -6,7 +6,7 @@ use Rattle.stock_requests.specs.Steps.{after_step, After}
 use Rattle.stock_requests.specs.declared.steps.Steps.{Steps}
 use Rattle.stock_clients.specs.Asked.{asked_all}
 use Rattle.stock_clients.specs.Conversation.{waiting_count}
-use Rattle.stock_clients.specs.Heard.{answered_one, answered_passing, answered_several, answered_songs, gone_on, heard, heard_answer, heard_by}
+use Rattle.stock_clients.specs.Heard.{answered_one, answered_passing, answered_several, gone_on, heard, heard_answer, heard_by}
 use Rattle.stock_clients.specs.Heard.{heard_end, heard_first, heard_so, heard_step, heard_steps, hear_byte, hear_bytes, hear_line, waiting}
 use Rattle.stock_clients.specs.Heard.{Answered, Heard, Hears}
 use Rattle.stock_clients.specs.Lines.{kind_of}
@@ -35,7 +35,8 @@ left_counts (Some first) rest = omega arith
 answer_counts : (hearing : Hearing) (rest : List Awaited) (answer : Answered) → Counts (length rest + 1) (heard_answer hearing rest answer)
 answer_counts hearing rest answer = omega (arith, left_counts answer.left rest)
 
-end_counts : (hearing : Hearing) (rest : List Awaited) (line : List ℕ) (after : After) → Counts (length rest + 1) (heard_end hearing rest line after)
+end_counts : (hearing : Hearing) (rest : List Awaited) (line : List ℕ) (after : After) → Counts (length rest + 1)
+    (heard_end hearing rest line after)
 end_counts hearing rest line after = by_natives after.natives refl
   where
     by_natives : (natives : Option (List (List ℕ))) → after.natives ≡ natives → Counts (length rest + 1) (heard_end hearing rest line after)
@@ -51,15 +52,14 @@ step_counts hearing rest line kinds.Told steps = omega arith
 
 steps_count : (hearing : Hearing) (rest : List Awaited) (line : List ℕ) (steps : Option Steps)
     → Counts (length rest + 1) (heard_steps hearing rest line steps)
-steps_count hearing rest line None = omega (arith, left_counts (answered_passing hearing.shown line (kind_of line)).left rest)
+steps_count hearing rest line None = omega (arith, left_counts (answered_passing line (kind_of line)).left rest)
 steps_count hearing rest line (Some steps) = step_counts hearing rest line (kind_of line) steps
 
 first_counts : (first : Awaited) (rest : List Awaited) (hearing : Hearing) (line : List ℕ)
     → Counts (length rest + 1) (heard_first first rest hearing line)
-first_counts awaits.Passing rest h line = answer_counts h rest (answered_passing h.shown line (kind_of line))
-first_counts awaits.Songs rest h line = answer_counts h rest (answered_songs h.shown line (kind_of line))
-first_counts (awaits.One change) rest h line = answer_counts h rest (answered_one change h.times h.shown line (kind_of line))
-first_counts (awaits.Several several) rest h line = answer_counts h rest (answered_several several h.times h.shown line (kind_of line))
+first_counts awaits.Passing rest h line = answer_counts h rest (answered_passing line (kind_of line))
+first_counts (awaits.One change) rest h line = answer_counts h rest (answered_one change h.times line (kind_of line))
+first_counts (awaits.Several several) rest h line = answer_counts h rest (answered_several several h.times line (kind_of line))
 first_counts awaits.Step rest h line = steps_count h rest line h.steps
 
 awaited_counts : (awaited : List Awaited) (hearing : Hearing) (line : List ℕ) → hearing.awaited ≡ awaited
@@ -83,8 +83,8 @@ next_counts Stays state = omega arith
 next_counts (Asks natives) state = omega (arith, length-append state.hearing.awaited (awaits.Step ∷ []))
 next_counts Resumes state = omega (
   arith,
-  no_more_wait state.masks state.later,
-  length-append state.hearing.awaited (asked_all state.masks state.later).awaited,
+  no_more_wait state.later,
+  length-append state.hearing.awaited (asked_all state.later).awaited,
 )
 
 line_counts : (state : Hears) (line : List ℕ) → count_of (hear_line state line) ≤ count_of state

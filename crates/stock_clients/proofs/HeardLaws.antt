@@ -1,20 +1,21 @@
 -- Answers that pass, and the order of answers.
-use Rattle.std.proofs.Common.{◌≡◌, ◌≢◌, ◌⊎◌, ◌&&◌, not, ℕ, zero, suc, ◌+◌, ◌<◌, ◌==◌, length, take, drop, get_or, arith, Bool, true, false, cond, List, [], ◌∷◌, ◌++◌, Option, Some, None, refl, sym, ◌∙◌, ap, subst}
+use Rattle.std.proofs.Common.{◌≡◌, ◌≢◌, ◌⊎◌, ◌&&◌, not, ℕ, zero, suc, ◌+◌, ◌<◌, ◌==◌, length, take, drop, get_or, arith, Bool, true, false}
+use Rattle.std.proofs.Common.{cond, List, [], ◌∷◌, ◌++◌, Option, Some, None, refl, sym, ◌∙◌, ap, subst}
 use Rattle.std.proofs.Common.{inl, inr, append_assoc}
 use Rattle.std.proofs.lemmas.List.{append-nil}
 use Rattle.std.proofs.lemmas.Bool.{eqb-true, ne_eqb}
 use Rattle.memchr.specs.Find.{IsFirstByte, is_byte}
 use Rattle.client_session.proofs.Newlines.{searched_at, searched_none}
 use Rattle.client_session.specs.Lines.{newline, ended, HasNoNewline}
-use Rattle.stock_clients.specs.Heard.{answered_passing, answered_songs, answered_one, answered_several, answered, done_one, ended_part, part_end}
-use Rattle.stock_clients.specs.Heard.{gone_on, heard, heard_answer, heard_by, heard_first, heard_so, heard_step, heard_steps, hear_byte, hear_bytes}
-use Rattle.stock_clients.specs.Heard.{hear_line, shown_behind, told_at_end, waiting, Heard, Hears}
+use Rattle.stock_clients.specs.Heard.{answered_passing, answered_one, answered_several, answered, done_one, ended_part, part_end}
+use Rattle.stock_clients.specs.Heard.{gone_on, heard, heard_answer, heard_by, heard_first, heard_so, heard_step, heard_steps, hear_byte}
+use Rattle.stock_clients.specs.Heard.{hear_bytes}
+use Rattle.stock_clients.specs.Heard.{hear_line, told_at_end, waiting, Heard, Hears}
 use Rattle.stock_requests.specs.declared.steps.Steps.{Steps}
 use Rattle.stock_clients.specs.declared.next.Next.{Next}
 use Rattle.stock_clients.specs.declared.next.Next.TheVariants.{Stays}
 use Rattle.stock_clients.specs.declared.times.DaemonTimes.{DaemonTimes}
 use Rattle.stock_clients.specs.Laws.{ArePassing, IsInOrder, Passes}
-use Rattle.stock_requests.specs.declared.mask.TagSet.{TagSet}
 use Rattle.stock_clients.specs.Lines.{kind_of}
 use Rattle.stock_clients.specs.declared.kinds.LineKind.{LineKind}
 use Rattle.stock_clients.specs.declared.kinds.LineKind.TheVariants as kinds
@@ -28,16 +29,15 @@ use Rattle.stock_clients.specs.declared.hearing.Hearing.{Hearing}
 -- the line passes, what waits passes still, and nothing is asked behind it
 record HeardPasses (hearing : Hearing) (line : List ℕ) (now : Heard) : Type 0 where
   given : now.given ≡ ended line
-  same : now.hearing.shown ≡ hearing.shown
   passing : ArePassing now.hearing.awaited
   next : now.next ≡ Stays
 
 kind_passes : (hearing : Hearing) (line : List ℕ) (kind : LineKind) (rest : List Awaited) → ArePassing rest
-    → HeardPasses hearing line (heard_answer hearing rest (answered_passing hearing.shown line kind))
-kind_passes hearing line kinds.Ok rest p = record { given = refl; same = refl; passing = p; next = refl }
-kind_passes hearing line kinds.Ack rest p = record { given = refl; same = refl; passing = p; next = refl }
-kind_passes hearing line kinds.ListOk rest p = record { given = refl; same = refl; passing = (refl, p); next = refl }
-kind_passes hearing line kinds.Told rest p = record { given = refl; same = refl; passing = (refl, p); next = refl }
+    → HeardPasses hearing line (heard_answer hearing rest (answered_passing line kind))
+kind_passes hearing line kinds.Ok rest p = record { given = refl; passing = p; next = refl }
+kind_passes hearing line kinds.Ack rest p = record { given = refl; passing = p; next = refl }
+kind_passes hearing line kinds.ListOk rest p = record { given = refl; passing = (refl, p); next = refl }
+kind_passes hearing line kinds.Told rest p = record { given = refl; passing = (refl, p); next = refl }
 
 first_passes : (first : Awaited) (hearing : Hearing) (line : List ℕ) (rest : List Awaited) → first ≡ awaits.Passing → ArePassing rest
     → HeardPasses hearing line (heard_first first rest hearing line)
@@ -46,14 +46,14 @@ first_passes first hearing line rest e p = subst (λ (a : Awaited). HeardPasses 
 
 by_awaited : (awaited : List Awaited) (hearing : Hearing) (line : List ℕ) → hearing.awaited ≡ awaited → ArePassing awaited
     → HeardPasses hearing line (heard_by awaited hearing line)
-by_awaited [] hearing line e p = record { given = refl; same = refl; passing = subst ArePassing (sym e) tt; next = refl }
+by_awaited [] hearing line e p = record { given = refl; passing = subst ArePassing (sym e) tt; next = refl }
 by_awaited (first ∷ rest) hearing line e p = first_passes first hearing line rest p.0 p.1
 
 by_greeted : (greeted : Bool) (hearing : Hearing) (line : List ℕ) → ArePassing hearing.awaited
     → HeardPasses hearing line (cond greeted (heard_by hearing.awaited hearing line)
     (heard_so (record hearing { is_greeted = true }) (ended line) Stays))
 by_greeted true hearing line p = by_awaited hearing.awaited hearing line refl p
-by_greeted false hearing line p = record { given = refl; same = refl; passing = p; next = refl }
+by_greeted false hearing line p = record { given = refl; passing = p; next = refl }
 
 heard_passes : (hearing : Hearing) (line : List ℕ) → ArePassing hearing.awaited → HeardPasses hearing line (heard hearing line)
 heard_passes hearing line p = by_greeted hearing.is_greeted hearing line p
@@ -71,13 +71,12 @@ byte_passes true state byte e p =
     subst (Passes state (byte ∷ [])) (sym (stays now.next next passes.next)) (record {
       given = append-nil _ ∙ ap (λ v. state.given ++ v) (passes.given ∙ ap (λ b. state.held ++ b ∷ []) (sym (eqb-true byte newline e)));
       passing = passes.passing;
-      shown = passes.same;
     })
-byte_passes false state byte e p = record { given = refl; passing = p; shown = refl }
+byte_passes false state byte e p = record { given = refl; passing = p }
 
 pub bytes_pass : (state : Hears) (bytes : List ℕ) → ArePassing state.hearing.awaited → Passes state bytes (hear_bytes state bytes)
 bytes_pass state [] p =
-    record { given = ap (λ v. state.given ++ v) (sym (append-nil state.held)); passing = p; shown = refl }
+    record { given = ap (λ v. state.given ++ v) (sym (append-nil state.held)); passing = p }
 bytes_pass state (byte ∷ bytes) p =
     let one = byte_passes (byte == newline) state byte refl p in
     let more = bytes_pass (hear_byte state byte) bytes one.passing in
@@ -85,7 +84,6 @@ bytes_pass state (byte ∷ bytes) p =
       given = more.given ∙ sym (append_assoc _ _ bytes) ∙ ap (λ v. v ++ bytes) one.given ∙ append_assoc state.given _ bytes
           ∙ ap (λ v. state.given ++ v) (append_assoc state.held (byte ∷ []) bytes);
       passing = more.passing;
-      shown = more.shown ∙ one.shown;
     }
 
 -- ---- the order of answers
@@ -97,34 +95,31 @@ left_at now = now.hearing.awaited
 -- an answer's end leaves nothing of the request that waited longest
 steps_over : (kind : LineKind) → (kind ≡ kinds.Ok) ⊎ (kind ≡ kinds.Ack) → (hearing : Hearing) (rest : List Awaited) (line : List ℕ)
     → kind_of line ≡ kind → (steps : Option Steps) → left_at (heard_steps hearing rest line steps) ≡ rest
-steps_over kind (inl ok) hearing rest line e None = ap (λ k. waiting (answered_passing hearing.shown line k).left rest) (e ∙ ok)
-steps_over kind (inr ack) hearing rest line e None = ap (λ k. waiting (answered_passing hearing.shown line k).left rest) (e ∙ ack)
+steps_over kind (inl ok) hearing rest line e None = ap (λ k. waiting (answered_passing line k).left rest) (e ∙ ok)
+steps_over kind (inr ack) hearing rest line e None = ap (λ k. waiting (answered_passing line k).left rest) (e ∙ ack)
 steps_over kind (inl ok) hearing rest line e (Some steps) = ap (λ k. left_at (heard_step hearing rest line k steps)) (e ∙ ok)
 steps_over kind (inr ack) hearing rest line e (Some steps) = ap (λ k. left_at (heard_step hearing rest line k steps)) (e ∙ ack)
 
 over_at : (kind : LineKind) → (kind ≡ kinds.Ok) ⊎ (kind ≡ kinds.Ack) → (first : Awaited) (rest : List Awaited) (hearing : Hearing)
     (line : List ℕ) → kind_of line ≡ kind → left_at (heard_first first rest hearing line) ≡ rest
-over_at kind (inl ok) awaits.Passing rest h line e = ap (λ k. waiting (answered_passing h.shown line k).left rest) (e ∙ ok)
-over_at kind (inr ack) awaits.Passing rest h line e = ap (λ k. waiting (answered_passing h.shown line k).left rest) (e ∙ ack)
-over_at kind (inl ok) awaits.Songs rest h line e = ap (λ k. waiting (answered_songs h.shown line k).left rest) (e ∙ ok)
-over_at kind (inr ack) awaits.Songs rest h line e = ap (λ k. waiting (answered_songs h.shown line k).left rest) (e ∙ ack)
+over_at kind (inl ok) awaits.Passing rest h line e = ap (λ k. waiting (answered_passing line k).left rest) (e ∙ ok)
+over_at kind (inr ack) awaits.Passing rest h line e = ap (λ k. waiting (answered_passing line k).left rest) (e ∙ ack)
 over_at kind (inl ok) (awaits.One change) rest h line e =
-    ap (λ k. waiting (answered_one change h.times h.shown line k).left rest) (e ∙ ok)
+    ap (λ k. waiting (answered_one change h.times line k).left rest) (e ∙ ok)
 over_at kind (inr ack) (awaits.One change) rest h line e =
-    ap (λ k. waiting (answered_one change h.times h.shown line k).left rest) (e ∙ ack)
+    ap (λ k. waiting (answered_one change h.times line k).left rest) (e ∙ ack)
 over_at kind (inl ok) (awaits.Several several) rest h line e =
-    ap (λ k. waiting (answered_several several h.times h.shown line k).left rest) (e ∙ ok)
+    ap (λ k. waiting (answered_several several h.times line k).left rest) (e ∙ ok)
 over_at kind (inr ack) (awaits.Several several) rest h line e =
-    ap (λ k. waiting (answered_several several h.times h.shown line k).left rest) (e ∙ ack)
+    ap (λ k. waiting (answered_several several h.times line k).left rest) (e ∙ ack)
 over_at kind which awaits.Step rest h line e = steps_over kind which h rest line e h.steps
 
 -- a part's end leaves the request
-part_left : (several : Several) (times : DaemonTimes) (shown : TagSet) (line : List ℕ) (commands : List Part)
-    → (a : Awaited) × ((ended_part several times shown line commands).left ≡ Some a)
-part_left several times shown line [] = (awaits.Several several, refl)
-part_left several times shown line (parts.Same ∷ rest) = (awaits.Several (done_one several rest), refl)
-part_left several times shown line (parts.Songs ∷ rest) = (awaits.Several (done_one several rest), refl)
-part_left several times shown line (parts.Changed change ∷ rest) = (awaits.Several (done_one several rest), refl)
+part_left : (several : Several) (times : DaemonTimes) (line : List ℕ) (commands : List Part)
+    → (a : Awaited) × ((ended_part several times line commands).left ≡ Some a)
+part_left several times line [] = (awaits.Several several, refl)
+part_left several times line (parts.Same ∷ rest) = (awaits.Several (done_one several rest), refl)
+part_left several times line (parts.Changed change ∷ rest) = (awaits.Several (done_one several rest), refl)
 
 -- a line that is no end leaves something of the request
 steps_left_at : (hearing : Hearing) (rest : List Awaited) (line : List ℕ) (kind : LineKind) → kind_of line ≡ kind → kind ≢ kinds.Ok
@@ -132,9 +127,9 @@ steps_left_at : (hearing : Hearing) (rest : List Awaited) (line : List ℕ) (kin
 steps_left_at h rest line kinds.Ok e no_ok no_ack steps = absurd (no_ok refl)
 steps_left_at h rest line kinds.Ack e no_ok no_ack steps = absurd (no_ack refl)
 steps_left_at h rest line kinds.ListOk e no_ok no_ack None =
-    (awaits.Passing, ap (λ k. waiting (answered_passing h.shown line k).left rest) e)
+    (awaits.Passing, ap (λ k. waiting (answered_passing line k).left rest) e)
 steps_left_at h rest line kinds.Told e no_ok no_ack None =
-    (awaits.Passing, ap (λ k. waiting (answered_passing h.shown line k).left rest) e)
+    (awaits.Passing, ap (λ k. waiting (answered_passing line k).left rest) e)
 steps_left_at h rest line kinds.ListOk e no_ok no_ack (Some steps) =
     (awaits.Step, ap (λ k. left_at (heard_step h rest line k steps)) e)
 steps_left_at h rest line kinds.Told e no_ok no_ack (Some steps) =
@@ -145,23 +140,19 @@ left_by : (first : Awaited) (rest : List Awaited) (hearing : Hearing) (line : Li
 left_by first rest h line kinds.Ok e no_ok no_ack = absurd (no_ok refl)
 left_by first rest h line kinds.Ack e no_ok no_ack = absurd (no_ack refl)
 left_by awaits.Passing rest h line kinds.ListOk e no_ok no_ack =
-    (awaits.Passing, ap (λ k. waiting (answered_passing h.shown line k).left rest) e)
+    (awaits.Passing, ap (λ k. waiting (answered_passing line k).left rest) e)
 left_by awaits.Passing rest h line kinds.Told e no_ok no_ack =
-    (awaits.Passing, ap (λ k. waiting (answered_passing h.shown line k).left rest) e)
-left_by awaits.Songs rest h line kinds.ListOk e no_ok no_ack =
-    (awaits.Songs, ap (λ k. waiting (answered_songs h.shown line k).left rest) e)
-left_by awaits.Songs rest h line kinds.Told e no_ok no_ack =
-    (awaits.Songs, ap (λ k. waiting (answered_songs h.shown line k).left rest) e)
+    (awaits.Passing, ap (λ k. waiting (answered_passing line k).left rest) e)
 left_by (awaits.One change) rest h line kinds.ListOk e no_ok no_ack =
-    (awaits.One change, ap (λ k. waiting (answered_one change h.times h.shown line k).left rest) e)
+    (awaits.One change, ap (λ k. waiting (answered_one change h.times line k).left rest) e)
 left_by (awaits.One change) rest h line kinds.Told e no_ok no_ack =
-    (awaits.One change, ap (λ k. waiting (answered_one change h.times h.shown line k).left rest) e)
+    (awaits.One change, ap (λ k. waiting (answered_one change h.times line k).left rest) e)
 left_by (awaits.Several several) rest h line kinds.ListOk e no_ok no_ack =
-    let part = part_left several h.times h.shown line several.parts in
-    (part.0, ap (λ k. waiting (answered_several several h.times h.shown line k).left rest) e ∙ ap (λ left. waiting left rest) part.1)
+    let part = part_left several h.times line several.parts in
+    (part.0, ap (λ k. waiting (answered_several several h.times line k).left rest) e ∙ ap (λ left. waiting left rest) part.1)
 left_by (awaits.Several several) rest h line kinds.Told e no_ok no_ack = (
   awaits.Several several,
-  ap (λ k. waiting (answered_several several h.times h.shown line k).left rest) e,
+  ap (λ k. waiting (answered_several several h.times line k).left rest) e,
 )
 left_by awaits.Step rest h line kinds.ListOk e no_ok no_ack = steps_left_at h rest line kinds.ListOk e no_ok no_ack h.steps
 left_by awaits.Step rest h line kinds.Told e no_ok no_ack = steps_left_at h rest line kinds.Told e no_ok no_ack h.steps

@@ -1,5 +1,5 @@
 -- A conversation: what the client has sent, what the daemon is to be asked, and what is awaited of it.
-use Rattle.std.specs.Prelude.{◌≡◌, ◌⊎◌, ℕ, ◌+◌, ◌<◌, ◌≤◌, Bool, false, List, [], ◌++◌, length, Option, Some, None, Result, Ok, Err}
+use Rattle.std.specs.Prelude.{◌≡◌, ◌⊎◌, ℕ, ◌+◌, ◌<◌, ◌≤◌, List, [], ◌++◌, length, Option, Some, None, Result, Ok, Err}
 use Rattle.client_session.specs.Requests.{brought, left_by}
 use Rattle.client_session.specs.Session.{SessionState, fresh, closed_by, output_limit}
 use Rattle.client_session.specs.declared.refusal.SessionError.{SessionError}
@@ -20,26 +20,24 @@ pub record Talk : Type 0 where
   -- the beginning of the daemon's next line
   pub held : List ℕ
   pub hearing : Hearing
-  -- the client has asked for other tags
-  pub masks : Bool
   -- the requests that the daemon is asked once the steps of the one before are done
   pub later : List Request
   -- the refusal that ended the conversation
   pub fault : Option ConversationError
 
-abbrev pub talk : SessionState → List ℕ → List ℕ → Hearing → Bool → List Request → Option ConversationError → Talk
-talk asking native held hearing masks later fault =
-    record { asking = asking; native = native; held = held; hearing = hearing; masks = masks; later = later; fault = fault }
+abbrev pub talk : SessionState → List ℕ → List ℕ → Hearing → List Request → Option ConversationError → Talk
+talk asking native held hearing later fault =
+    record { asking = asking; native = native; held = held; hearing = hearing; later = later; fault = fault }
 
 abbrev pub begun : Talk
-begun = talk fresh [] [] unheard false [] None
+begun = talk fresh [] [] unheard [] None
 
 -- one that a refusal ended holds nothing
 abbrev pub ended_by : ConversationError → Talk
-ended_by refusal = talk fresh [] [] unheard false [] (Some refusal)
+ended_by refusal = talk fresh [] [] unheard [] (Some refusal)
 
 abbrev pub talk_of : SessionState → List ℕ → Hears → Option ConversationError → Talk
-talk_of asking held state fault = talk asking state.native held state.hearing state.masks state.later fault
+talk_of asking held state fault = talk asking state.native held state.hearing state.later fault
 
 -- how many requests may wait for their answers, and how many bytes a line of the daemon may have
 abbrev pub request_limit : ℕ
@@ -59,14 +57,13 @@ pub record IsBounded (now : Talk) : Type 0 where
 
 -- what the daemon's next bytes find
 abbrev pub hearing_of : Talk → Hears
-hearing_of now = hears now.hearing now.held [] now.native now.masks now.later
+hearing_of now = hears now.hearing now.held [] now.native now.later
 
 abbrev pub left_of : Talk → Hears → Talk
 left_of now state = record now {
   hearing = state.hearing;
   held = state.held;
   native = state.native;
-  masks = state.masks;
   later = state.later;
 }
 

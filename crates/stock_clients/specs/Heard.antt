@@ -2,15 +2,11 @@
 use Rattle.std.specs.Prelude.{◌≡◌, ℕ, ◌-◌, ◌==◌, Bool, true, false, List, [], ◌∷◌, ◌++◌, length, codes}
 use Rattle.std.specs.Prelude.{Option, Some, None, if◌then◌else◌}
 use Rattle.client_session.specs.Lines.{newline, ended}
-use Rattle.stock_requests.specs.Masks.{all_in_set, after_change, is_shown}
-use Rattle.stock_requests.specs.declared.mask.TagSet.{TagSet}
 use Rattle.stock_requests.specs.declared.change.Change.{Change}
-use Rattle.stock_requests.specs.declared.change.LineChange.{LineChange}
-use Rattle.stock_requests.specs.declared.change.LineChange.TheVariants.{Kept, Masked}
 use Rattle.stock_requests.specs.declared.change.Ending.{Ending}
-use Rattle.stock_requests.specs.declared.change.Ending.TheVariants.{Nothing, Times, Masks}
+use Rattle.stock_requests.specs.declared.change.Ending.TheVariants.{Nothing, Times}
 use Rattle.stock_requests.specs.declared.steps.Steps.{Steps}
-use Rattle.stock_requests.specs.Steps.{after_step, step_change, step_line, step_part, After, Told}
+use Rattle.stock_requests.specs.Steps.{after_step, step_change, step_line, After}
 use Rattle.stock_clients.specs.Lines.{kind_of, list_ok_text}
 use Rattle.stock_clients.specs.Refused.{refusal_of, refusal_at}
 use Rattle.stock_clients.specs.declared.kinds.LineKind.{LineKind}
@@ -28,57 +24,32 @@ use Rattle.stock_clients.specs.Asked.{asked_all, lines_text}
 use Rattle.command_text.specs.declared.request.Request.{Request}
 use Rattle.command_text.specs.Answer.{number_pair}
 
--- a line of a song, where its tag is one that the client wants
-abbrev pub shown_line : TagSet → List ℕ → List ℕ
-shown_line shown line = if is_shown shown line then ended line else []
-
--- what is given for a line that tells something
-abbrev pub changed_line : LineChange → TagSet → List ℕ → List ℕ
-changed_line Kept shown line = ended line
-changed_line Masked shown line = shown_line shown line
-
--- the tags that the client wants behind an answer
-abbrev pub shown_behind : Ending → TagSet → TagSet
-shown_behind Nothing shown = shown
-shown_behind Times shown = shown
-shown_behind (Masks change) shown = after_change change shown
-
 -- what is told before the end of an answer
-abbrev pub told_at_end : Ending → TagSet → DaemonTimes → List ℕ
-told_at_end Nothing shown times = []
-told_at_end Times shown times = number_pair (codes "uptime") times.uptime ++ number_pair (codes "db_update") times.db_update
-told_at_end (Masks change) shown times = []
+abbrev pub told_at_end : Ending → DaemonTimes → List ℕ
+told_at_end Nothing times = []
+told_at_end Times times = number_pair (codes "uptime") times.uptime ++ number_pair (codes "db_update") times.db_update
 
--- what is left of a request behind a line, the tags that the client wants then, and what it is given
+-- what is left of a request behind a line, and what the client is given
 pub record Answered : Type 0 where
   pub left : Option Awaited
-  pub shown : TagSet
   pub given : List ℕ
 
-abbrev pub answered : Option Awaited → TagSet → List ℕ → Answered
-answered left shown given = record { left = left; shown = shown; given = given }
+abbrev pub answered : Option Awaited → List ℕ → Answered
+answered left given = record { left = left; given = given }
 
 -- the line passes
-abbrev pub answered_passing : TagSet → List ℕ → LineKind → Answered
-answered_passing shown line kinds.Ok = answered None shown (ended line)
-answered_passing shown line kinds.Ack = answered None shown (ended line)
-answered_passing shown line kinds.ListOk = answered (Some awaits.Passing) shown (ended line)
-answered_passing shown line kinds.Told = answered (Some awaits.Passing) shown (ended line)
+abbrev pub answered_passing : List ℕ → LineKind → Answered
+answered_passing line kinds.Ok = answered None (ended line)
+answered_passing line kinds.Ack = answered None (ended line)
+answered_passing line kinds.ListOk = answered (Some awaits.Passing) (ended line)
+answered_passing line kinds.Told = answered (Some awaits.Passing) (ended line)
 
--- the line passes, where it tells no tag that isn't wanted
-abbrev pub answered_songs : TagSet → List ℕ → LineKind → Answered
-answered_songs shown line kinds.Ok = answered None shown (ended line)
-answered_songs shown line kinds.Ack = answered None shown (ended line)
-answered_songs shown line kinds.ListOk = answered (Some awaits.Songs) shown (ended line)
-answered_songs shown line kinds.Told = answered (Some awaits.Songs) shown (shown_line shown line)
-
--- the line is changed; an answer's end brings what is told before it
-abbrev pub answered_one : Change → DaemonTimes → TagSet → List ℕ → LineKind → Answered
-answered_one change times shown line kinds.Ok =
-    answered None (shown_behind change.ending shown) (told_at_end change.ending shown times ++ ended line)
-answered_one change times shown line kinds.Ack = answered None shown (ended (refusal_of change 0 line))
-answered_one change times shown line kinds.ListOk = answered (Some (awaits.One change)) shown (ended line)
-answered_one change times shown line kinds.Told = answered (Some (awaits.One change)) shown (changed_line change.lines shown line)
+-- an answer's end brings what is told before it, a refusal is told of the client's own command
+abbrev pub answered_one : Change → DaemonTimes → List ℕ → LineKind → Answered
+answered_one change times line kinds.Ok = answered None (told_at_end change.ending times ++ ended line)
+answered_one change times line kinds.Ack = answered None (ended (refusal_of change 0 line))
+answered_one change times line kinds.ListOk = answered (Some (awaits.One change)) (ended line)
+answered_one change times line kinds.Told = answered (Some (awaits.One change)) (ended line)
 
 -- how many commands of the list are done
 abbrev pub done : Several → ℕ
@@ -94,50 +65,37 @@ abbrev pub done_one : Several → List Part → Several
 done_one several rest = record several { parts = rest }
 
 -- the command at work is done
-abbrev pub ended_part : Several → DaemonTimes → TagSet → List ℕ → List Part → Answered
-ended_part several times shown line [] = answered (Some (awaits.Several several)) shown (ended line)
-ended_part several times shown line (parts.Same ∷ rest) =
-    answered (Some (awaits.Several (done_one several rest))) shown (part_end several.separated)
-ended_part several times shown line (parts.Songs ∷ rest) =
-    answered (Some (awaits.Several (done_one several rest))) shown (part_end several.separated)
-ended_part several times shown line (parts.Changed change ∷ rest) =
-    answered (Some (awaits.Several (done_one several rest))) (shown_behind change.ending shown)
-    (told_at_end change.ending shown times ++ part_end several.separated)
-
--- what is given for a line of the command at work
-abbrev pub part_line : Several → TagSet → List ℕ → List Part → List ℕ
-part_line several shown line [] = ended line
-part_line several shown line (parts.Same ∷ rest) = ended line
-part_line several shown line (parts.Songs ∷ rest) = shown_line shown line
-part_line several shown line (parts.Changed change ∷ rest) = changed_line change.lines shown line
+abbrev pub ended_part : Several → DaemonTimes → List ℕ → List Part → Answered
+ended_part several times line [] = answered (Some (awaits.Several several)) (ended line)
+ended_part several times line (parts.Same ∷ rest) =
+    answered (Some (awaits.Several (done_one several rest))) (part_end several.separated)
+ended_part several times line (parts.Changed change ∷ rest) =
+    answered (Some (awaits.Several (done_one several rest))) (told_at_end change.ending times ++ part_end several.separated)
 
 -- a refusal counts the client's own commands
 abbrev pub part_refusal : Several → List ℕ → List Part → List ℕ
 part_refusal several line [] = refusal_at (done several) line
 part_refusal several line (parts.Same ∷ rest) = refusal_at (done several) line
-part_refusal several line (parts.Songs ∷ rest) = refusal_at (done several) line
 part_refusal several line (parts.Changed change ∷ rest) = refusal_of change (done several) line
 
-abbrev pub answered_several : Several → DaemonTimes → TagSet → List ℕ → LineKind → Answered
-answered_several several times shown line kinds.Ok = answered None shown (ended line)
-answered_several several times shown line kinds.Ack = answered None shown (ended (part_refusal several line several.parts))
-answered_several several times shown line kinds.ListOk = ended_part several times shown line several.parts
-answered_several several times shown line kinds.Told =
-    answered (Some (awaits.Several several)) shown (part_line several shown line several.parts)
+abbrev pub answered_several : Several → DaemonTimes → List ℕ → LineKind → Answered
+answered_several several times line kinds.Ok = answered None (ended line)
+answered_several several times line kinds.Ack = answered None (ended (part_refusal several line several.parts))
+answered_several several times line kinds.ListOk = ended_part several times line several.parts
+answered_several several times line kinds.Told = answered (Some (awaits.Several several)) (ended line)
 
--- the request that is answered, the tags and the bytes that were given are those
-pub record IsAnswered (answer : Answered) (found : Option Awaited) (tags : TagSet) (before after : List ℕ) : Type 0 where
+-- the request that is answered, and the bytes that were given are those
+pub record IsAnswered (answer : Answered) (found : Option Awaited) (before after : List ℕ) : Type 0 where
   pub left : found ≡ answer.left
-  pub shown : tags ≡ answer.shown
   pub given : after ≡ before ++ answer.given
 
 -- no time is known yet
 abbrev pub no_times : DaemonTimes
 no_times = record { uptime = 0; db_update = 0 }
 
--- nothing is awaited, and all tags are shown
+-- nothing is awaited
 abbrev pub unheard : Hearing
-unheard = record { awaited = []; shown = all_in_set; is_greeted = false; times = no_times; steps = None }
+unheard = record { awaited = []; is_greeted = false; times = no_times; steps = None }
 
 -- The first line is the greeting, and passes. A line is one of the answer to the request that waits longest; behind its end the next one is
 -- answered.
@@ -158,7 +116,7 @@ waiting (Some first) rest = first ∷ rest
 -- an answer that was asked for at once
 abbrev pub heard_answer : Hearing → List Awaited → Answered → Heard
 heard_answer hearing rest answer =
-    heard_so (record hearing { awaited = waiting answer.left rest; shown = answer.shown }) answer.given Stays
+    heard_so (record hearing { awaited = waiting answer.left rest }) answer.given Stays
 
 -- what is told where an answer in steps ends: nothing of an end behind which more is asked
 abbrev pub end_of_steps : Option (List (List ℕ)) → List ℕ → List ℕ
@@ -177,34 +135,33 @@ next_of (Some natives) = Asks natives
 abbrev pub heard_end : Hearing → List Awaited → List ℕ → After → Heard
 heard_end hearing rest line after =
     heard_so (record hearing { awaited = rest; steps = steps_left after.natives after.steps })
-    (after.given ++ end_of_steps after.natives line) (next_of after.natives)
+    (end_of_steps after.natives line) (next_of after.natives)
 
-abbrev pub heard_told : Hearing → List Awaited → Told → Heard
-heard_told hearing rest told =
-    heard_so (record hearing { awaited = awaits.Step ∷ rest; steps = Some told.steps }) told.given Stays
+-- the lines of steps are given to nobody
+abbrev pub heard_told : Hearing → List Awaited → Steps → Heard
+heard_told hearing rest steps = heard_so (record hearing { awaited = awaits.Step ∷ rest; steps = Some steps }) [] Stays
 
 abbrev pub heard_step : Hearing → List Awaited → List ℕ → LineKind → Steps → Heard
 heard_step hearing rest line kinds.Ok steps = heard_end hearing rest line (after_step steps)
 heard_step hearing rest line kinds.Ack steps =
     heard_so (record hearing { awaited = rest; steps = None }) (ended (refusal_of (step_change steps) 0 line)) Resumes
-heard_step hearing rest line kinds.ListOk steps = heard_told hearing rest (step_part steps)
+heard_step hearing rest line kinds.ListOk steps = heard_told hearing rest steps
 heard_step hearing rest line kinds.Told steps = heard_told hearing rest (step_line steps line)
 
 -- without steps the line passes
 abbrev pub heard_steps : Hearing → List Awaited → List ℕ → Option Steps → Heard
 heard_steps hearing rest line None = heard_so (record hearing {
-  awaited = waiting (answered_passing hearing.shown line (kind_of line)).left rest;
+  awaited = waiting (answered_passing line (kind_of line)).left rest;
 }) (ended line) Stays
 heard_steps hearing rest line (Some steps) = heard_step hearing rest line (kind_of line) steps
 
 -- what a line does to the request that is answered
 abbrev pub heard_first : Awaited → List Awaited → Hearing → List ℕ → Heard
-heard_first awaits.Passing rest hearing line = heard_answer hearing rest (answered_passing hearing.shown line (kind_of line))
-heard_first awaits.Songs rest hearing line = heard_answer hearing rest (answered_songs hearing.shown line (kind_of line))
+heard_first awaits.Passing rest hearing line = heard_answer hearing rest (answered_passing line (kind_of line))
 heard_first (awaits.One change) rest hearing line =
-    heard_answer hearing rest (answered_one change hearing.times hearing.shown line (kind_of line))
+    heard_answer hearing rest (answered_one change hearing.times line (kind_of line))
 heard_first (awaits.Several several) rest hearing line =
-    heard_answer hearing rest (answered_several several hearing.times hearing.shown line (kind_of line))
+    heard_answer hearing rest (answered_several several hearing.times line (kind_of line))
 heard_first awaits.Step rest hearing line = heard_steps hearing rest line hearing.steps
 
 -- the line passes, where nothing is awaited
@@ -218,33 +175,31 @@ heard hearing line =
     else heard_so (record hearing { is_greeted = true }) (ended line) Stays
 
 -- the daemon's bytes so far: what is awaited, the beginning of the next line, what was given, and what the daemon is to be asked; and the
--- requests that it is asked later, by a client that has asked for other tags or hasn't
+-- requests that it is asked later
 pub record Hears : Type 0 where
   pub hearing : Hearing
   pub held : List ℕ
   pub given : List ℕ
   pub native : List ℕ
-  pub masks : Bool
   pub later : List Request
 
-abbrev pub hears : Hearing → List ℕ → List ℕ → List ℕ → Bool → List Request → Hears
-hears hearing held given native masks later =
-    record { hearing = hearing; held = held; given = given; native = native; masks = masks; later = later }
+abbrev pub hears : Hearing → List ℕ → List ℕ → List ℕ → List Request → Hears
+hears hearing held given native later =
+    record { hearing = hearing; held = held; given = given; native = native; later = later }
 
 abbrev pub with_bytes : List ℕ → List ℕ → Hears → Hears
 with_bytes held given state = record state { held = held; given = given }
 
 abbrev pub unasked : Hears
-unasked = hears unheard [] [] [] false []
+unasked = hears unheard [] [] [] []
 
 -- where no steps are at work, the requests that wait are asked
 abbrev pub resumed : Hears → Hears
 resumed state =
-    let asked = asked_all state.masks state.later in
+    let asked = asked_all state.later in
     record state {
       hearing = record state.hearing { awaited = state.hearing.awaited ++ asked.awaited; steps = asked.steps };
       native = state.native ++ asked.native;
-      masks = asked.masks;
       later = asked.later;
     }
 

@@ -13,11 +13,11 @@ use Rattle.stock_clients.specs.declared.awaited.Awaited.{Awaited}
 use Rattle.stock_clients.specs.declared.awaited.Awaited.TheVariants as awaits
 use Rattle.stock_clients.specs.declared.hearing.Hearing.{Hearing}
 
--- a request of the daemon's own protocol: of a command that only `tagtypes` would have another meaning for, or none
+-- a request of the daemon's own protocol
 abbrev pub is_native : Request → Bool
-is_native (requests.Single line) = is_plain false (translation true line)
-is_native (requests.List lines) = all_plain false lines
-is_native (requests.OkList lines) = all_plain false lines
+is_native (requests.Single line) = is_plain (translation true line)
+is_native (requests.List lines) = all_plain lines
+is_native (requests.OkList lines) = all_plain lines
 is_native requests.Noidle = true
 
 abbrev pub AreNative : List Request → Type 0
@@ -34,17 +34,15 @@ spelled requests.Noidle = ended (codes "noidle")
 abbrev pub ArePassing : List Awaited → Type 0
 ArePassing awaited = AllByRecursion (λ request. request ≡ awaits.Passing) awaited
 
--- they go on as they are, their answers pass, and no tag was ever taken away
+-- they go on as they are, and their answers pass
 pub record IsAskedAsItIs (requests : List Request) (now : Asked) : Type 0 where
   pub native : now.native ≡ flat_map spelled requests
   pub passing : ArePassing now.awaited
-  pub masks : now.masks ≡ false
 
 -- what was given and what is held are what was given and held before, and these bytes
 pub record Passes (before : Hears) (bytes : List ℕ) (after : Hears) : Type 0 where
   pub given : after.given ++ after.held ≡ before.given ++ (before.held ++ bytes)
   pub passing : ArePassing after.hearing.awaited
-  pub shown : after.hearing.shown ≡ before.hearing.shown
 
 -- The line is one of the answer to the request that waits longest: its end takes that away, no other line does, and nothing changes what
 -- waits behind it.

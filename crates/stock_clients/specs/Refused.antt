@@ -2,10 +2,7 @@
 use Rattle.std.specs.Prelude.{ℕ, ◌==◌, List, [], ◌∷◌, ◌++◌, drop, codes, if◌then◌else◌}
 use Rattle.std.specs.Fmt.{decimal}
 use Rattle.command_text.specs.Names.{name_text}
-use Rattle.stock_requests.specs.Texts.{refusal_code, refusal_text}
 use Rattle.stock_requests.specs.declared.change.Change.{Change}
-use Rattle.stock_requests.specs.declared.change.RefusalChange.{RefusalChange}
-use Rattle.stock_requests.specs.declared.change.RefusalChange.TheVariants.{Named, Replaced}
 
 -- what stands before the first such byte, and behind it
 abbrev pub before : ℕ → List ℕ → List ℕ
@@ -43,12 +40,6 @@ braces name = codes "{" ++ (name ++ codes "} ")
 abbrev pub refusal_at : ℕ → List ℕ → List ℕ
 refusal_at index line = refusal_start (code_in line) index ++ named_in line
 
--- the refusal of the client's own command: the daemon's under its name, or another one
-abbrev pub refusal_by : RefusalChange → Change → ℕ → List ℕ → List ℕ
-refusal_by Named change index line =
-    refusal_start (code_in line) index ++ (braces (name_text change.name) ++ text_in line)
-refusal_by (Replaced refusal) change index line =
-    refusal_start (decimal refusal_code) index ++ (braces (name_text change.name) ++ refusal_text change.name refusal)
-
+-- the refusal of the client's own command: the daemon's under its name
 abbrev pub refusal_of : Change → ℕ → List ℕ → List ℕ
-refusal_of change index line = refusal_by change.refusal change index line
+refusal_of change index line = refusal_start (code_in line) index ++ (braces (name_text change.name) ++ text_in line)

@@ -18,8 +18,6 @@ pub struct Several {
 pub enum Awaited {
     /// The answer passes as it is.
     Passing,
-    /// The same, but for the tags of songs that `tagtypes` has taken away.
-    Songs,
     /// The answer is changed.
     One(Change),
     /// It is one of a list.

@@ -20,8 +20,6 @@ use std::marker::Model;
 pub(crate) struct Exchange {
     pub(crate) native: BytesMut,
     pub(crate) hearing: Hearing,
-    /// The client has asked for other tags.
-    pub(crate) masks: bool,
     /// The requests behind a command that is asked step by step.
     pub(crate) later: Later,
 }
@@ -32,7 +30,7 @@ impl Model for Exchange {
 
     ghost Value = { Hears };
 
-    ghost view = { λ e. hears e.hearing [] [] e.native.items e.masks e.later };
+    ghost view = { λ e. hears e.hearing [] [] e.native.items e.later };
 }
 
 impl Exchange {
@@ -42,7 +40,6 @@ impl Exchange {
         Exchange {
             native: BytesMut::new(alloc),
             hearing: Hearing::new(alloc),
-            masks: false,
             later: Later::new(alloc),
         }
     }
@@ -60,16 +57,14 @@ impl Exchange {
         ensures { OnOk result (self.new ≡ resumed self.old) }
     {
         let mut native = Vec::new(alloc);
-        let noticed = ask_requests(
+        let steps = ask_requests(
             alloc,
             &mut native,
             &mut self.hearing.awaited,
-            self.masks,
             &mut self.later,
         )?;
         self.native.extend_from_slice(native.as_slice())?;
-        self.masks = noticed.masks;
-        self.hearing.steps = noticed.steps;
+        self.hearing.steps = steps;
         Ok(())
     }
 

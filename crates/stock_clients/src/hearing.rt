@@ -2,10 +2,9 @@
 ghost use Rattle.std.specs.Prelude.{◌≡◌, ◌∷◌, ◌++◌, codes, Some, IfOk, OnOk};
 ghost use Rattle.client_session.specs.Lines.{ended};
 ghost use Rattle.command_text.specs.Answer.{number_pair};
-ghost use Rattle.stock_clients.specs.Heard.{answered_one, answered_several, answered_passing, answered_songs, changed_line, done, ended_part};
-ghost use Rattle.stock_clients.specs.Heard.{heard, heard_end, heard_first, heard_step, heard_steps, part_end, part_line};
-ghost use Rattle.stock_clients.specs.Heard.{part_refusal, shown_behind, shown_line, told_at_end, unheard};
-ghost use Rattle.stock_clients.specs.Heard.{waiting, IsAnswered};
+ghost use Rattle.stock_clients.specs.Heard.{answered_one, answered_several, answered_passing, done, ended_part};
+ghost use Rattle.stock_clients.specs.Heard.{heard, heard_end, heard_first, heard_step, heard_steps, part_end};
+ghost use Rattle.stock_clients.specs.Heard.{part_refusal, told_at_end, unheard, waiting, IsAnswered};
 ghost use Rattle.stock_clients.specs.Lines.{kind_of};
 ghost use Rattle.stock_requests.specs.Steps.{after_step};
 ghost use Rattle.stock_clients.specs.declared.awaited.Awaited.TheVariants.{Step};
@@ -20,7 +19,7 @@ use crate::times::DaemonTimes;
 use command_text::write_number;
 use no_memory::NoMemory;
 use std::alloc::Global;
-use stock_requests::{Change, Ending, LineChange, Steps, TagSet};
+use stock_requests::{Change, Ending, Steps};
 
 // Adds a line with its newline.
 pub(crate) fn write_line(out: &mut Vec<u8>, line: &[u8]) -> Result<(), NoMemory>
@@ -29,31 +28,6 @@ pub(crate) fn write_line(out: &mut Vec<u8>, line: &[u8]) -> Result<(), NoMemory>
     out.extend_from_slice(line)?;
     out.push(b'\n')?;
     Ok(())
-}
-
-// Adds the line of a song, where its tag is one that the client wants.
-fn write_shown(out: &mut Vec<u8>, shown: &TagSet, line: &[u8]) -> Result<(), NoMemory>
-    ensures { OnOk result (out.new.items ≡ out.old.items ++ shown_line shown.now line.now) }
-{
-    if shown.shows(line) {
-        return write_line(out, line);
-    }
-    Ok(())
-}
-
-// Adds what becomes of a line that tells something.
-fn write_changed(
-    out: &mut Vec<u8>,
-    lines: LineChange,
-    shown: &TagSet,
-    line: &[u8],
-) -> Result<(), NoMemory>
-    ensures { OnOk result (out.new.items ≡ out.old.items ++ changed_line lines shown.now line.now) }
-{
-    match lines {
-        LineChange::Kept => write_line(out, line),
-        LineChange::Masked => write_shown(out, shown, line),
-    }
 }
 
 // Adds what a clock tells of the daemon.
@@ -65,32 +39,23 @@ fn write_times(out: &mut Vec<u8>, times: DaemonTimes) -> Result<(), NoMemory>
     write_number(out, "db_update", times.db_update)
 }
 
-// Adds what is told before the end of an answer, and lets the mask change.
-fn end_answer(
-    out: &mut Vec<u8>,
-    end: &Ending,
-    times: DaemonTimes,
-    shown: &mut TagSet,
-) -> Result<(), NoMemory>
-    ensures told { OnOk result (out.new.items ≡ out.old.items ++ told_at_end end.now shown.old times) }
-    ensures shown { OnOk result (shown.new ≡ shown_behind end.now shown.old) }
+// Adds what is told before the end of an answer.
+fn end_answer(out: &mut Vec<u8>, end: &Ending, times: DaemonTimes) -> Result<(), NoMemory>
+    ensures { OnOk result (out.new.items ≡ out.old.items ++ told_at_end end.now times) }
 {
     match end {
-        Ending::Nothing => {}
-        Ending::Times => write_times(out, times)?,
-        Ending::Masks(change) => *shown = shown.changed(*change),
+        Ending::Nothing => Ok(()),
+        Ending::Times => write_times(out, times),
     }
-    Ok(())
 }
 
 // A line of an answer that passes.
 fn answer_passing(
     out: &mut Vec<u8>,
-    shown: &mut TagSet,
     line: &[u8],
     kind: LineKind,
 ) -> Result<Option<Awaited>, NoMemory>
-    ensures { IfOk result (λ left. IsAnswered (answered_passing shown.old line.now kind) left shown.new out.old.items out.new.items) }
+    ensures { IfOk result (λ left. IsAnswered (answered_passing line.now kind) left out.old.items out.new.items) }
 {
     write_line(out, line)?;
     Ok(match kind {
@@ -99,46 +64,19 @@ fn answer_passing(
     })
 }
 
-// A line of an answer that passes but for tags.
-fn answer_songs(
-    out: &mut Vec<u8>,
-    shown: &mut TagSet,
-    line: &[u8],
-    kind: LineKind,
-) -> Result<Option<Awaited>, NoMemory>
-    ensures { IfOk result (λ left. IsAnswered (answered_songs shown.old line.now kind) left shown.new out.old.items out.new.items) }
-{
-    match kind {
-        LineKind::Ok | LineKind::Ack => {
-            write_line(out, line)?;
-            Ok(None)
-        }
-        LineKind::ListOk => {
-            write_line(out, line)?;
-            Ok(Some(Awaited::Songs))
-        }
-        LineKind::Told => {
-            write_shown(out, shown, line)?;
-            Ok(Some(Awaited::Songs))
-        }
-    }
-}
-
 // A line of an answer that is changed.
 fn answer_one(
     out: &mut Vec<u8>,
-    shown: &mut TagSet,
     times: DaemonTimes,
     change: Change,
     line: &[u8],
     kind: LineKind,
 ) -> Result<Option<Awaited>, NoMemory>
-    ensures { IfOk result (λ left. IsAnswered (answered_one change times shown.old line.now kind)
-        left shown.new out.old.items out.new.items) }
+    ensures { IfOk result (λ left. IsAnswered (answered_one change times line.now kind) left out.old.items out.new.items) }
 {
     match kind {
         LineKind::Ok => {
-            end_answer(out, &change.ending, times, shown)?;
+            end_answer(out, &change.ending, times)?;
             write_line(out, line)?;
             Ok(None)
         }
@@ -146,12 +84,8 @@ fn answer_one(
             write_refusal_of(out, &change, 0, line)?;
             Ok(None)
         }
-        LineKind::ListOk => {
+        LineKind::ListOk | LineKind::Told => {
             write_line(out, line)?;
-            Ok(Some(Awaited::One(change)))
-        }
-        LineKind::Told => {
-            write_changed(out, change.lines, shown, line)?;
             Ok(Some(Awaited::One(change)))
         }
     }
@@ -160,13 +94,11 @@ fn answer_one(
 // The command at work is done.
 fn end_part(
     out: &mut Vec<u8>,
-    shown: &mut TagSet,
     times: DaemonTimes,
     several: Several,
     line: &[u8],
 ) -> Result<Option<Awaited>, NoMemory>
-    ensures { IfOk result (λ left. IsAnswered (ended_part several times shown.old line.now several.parts)
-        left shown.new out.old.items out.new.items) }
+    ensures { IfOk result (λ left. IsAnswered (ended_part several times line.now several.parts) left out.old.items out.new.items) }
 {
     let mut several = several;
     match several.parts.first() {
@@ -174,10 +106,10 @@ fn end_part(
             write_line(out, line)?;
             return Ok(Some(Awaited::Several(several)));
         }
-        Some(Part::Same | Part::Songs) => {}
+        Some(Part::Same) => {}
         Some(Part::Changed(change)) => {
             let ending = change.ending;
-            end_answer(out, &ending, times, shown)?;
+            end_answer(out, &ending, times)?;
         }
     }
     if several.separated {
@@ -187,29 +119,13 @@ fn end_part(
     Ok(Some(Awaited::Several(several)))
 }
 
-// A line of the part at work that tells something.
-fn tell_part(
-    out: &mut Vec<u8>,
-    shown: &TagSet,
-    several: &Several,
-    line: &[u8],
-) -> Result<(), NoMemory>
-    ensures { OnOk result (out.new.items ≡ out.old.items ++ part_line several.now shown.now line.now several.now.parts) }
-{
-    match several.parts.first() {
-        None | Some(Part::Same) => write_line(out, line),
-        Some(Part::Songs) => write_shown(out, shown, line),
-        Some(Part::Changed(change)) => write_changed(out, change.lines, shown, line),
-    }
-}
-
 // The refusal of the command at work.
 fn refuse_part(out: &mut Vec<u8>, several: &Several, line: &[u8]) -> Result<(), NoMemory>
     ensures { OnOk result (out.new.items ≡ out.old.items ++ ended (part_refusal several.now line.now several.now.parts)) }
 {
     let done = several.count.saturating_sub(several.parts.len());
     match several.parts.first() {
-        None | Some(Part::Same | Part::Songs) => write_refusal_at(out, done, line),
+        None | Some(Part::Same) => write_refusal_at(out, done, line),
         Some(Part::Changed(change)) => write_refusal_of(out, change, done, line),
     }
 }
@@ -217,14 +133,12 @@ fn refuse_part(out: &mut Vec<u8>, several: &Several, line: &[u8]) -> Result<(), 
 // A line of an answer to several commands.
 fn answer_several(
     out: &mut Vec<u8>,
-    shown: &mut TagSet,
     times: DaemonTimes,
     several: Several,
     line: &[u8],
     kind: LineKind,
 ) -> Result<Option<Awaited>, NoMemory>
-    ensures { IfOk result (λ left. IsAnswered (answered_several several times shown.old line.now kind)
-        left shown.new out.old.items out.new.items) }
+    ensures { IfOk result (λ left. IsAnswered (answered_several several times line.now kind) left out.old.items out.new.items) }
 {
     match kind {
         LineKind::Ok => {
@@ -235,9 +149,9 @@ fn answer_several(
             refuse_part(out, &several, line)?;
             Ok(None)
         }
-        LineKind::ListOk => end_part(out, shown, times, several, line),
+        LineKind::ListOk => end_part(out, times, several, line),
         LineKind::Told => {
-            tell_part(out, shown, &several, line)?;
+            write_line(out, line)?;
             Ok(Some(Awaited::Several(several)))
         }
     }
@@ -257,8 +171,6 @@ fn pass(out: &mut Vec<u8>, line: &[u8]) -> Result<Next, NoMemory>
 pub struct Hearing {
     /// The requests whose answers aren't whole yet, in the order in which they were asked.
     pub awaited: Queue,
-    /// The tags of songs that the client wants.
-    pub shown: TagSet,
     /// The daemon's first line has come.
     pub is_greeted: bool,
     /// What a clock tells of the daemon.
@@ -268,13 +180,12 @@ pub struct Hearing {
 }
 
 impl Hearing {
-    /// Nothing is awaited, and all tags are shown.
+    /// Nothing is awaited.
     pub(crate) fn new(alloc: Global) -> Self
         ensures { result ≡ unheard }
     {
         Hearing {
             awaited: Queue::new(alloc),
-            shown: TagSet::all(),
             is_greeted: false,
             times: DaemonTimes {
                 uptime: 0,
@@ -313,13 +224,14 @@ impl Hearing {
         line: &[u8],
         steps: Steps,
     ) -> Result<Next, NoMemory>
-        ensures hearing { OnOk result (let now = heard_end self.old self.old.awaited line.now (after_step steps) in self.new ≡ now.hearing) }
+        ensures hearing { OnOk result (let now = heard_end self.old self.old.awaited line.now (after_step steps) in self.new
+            ≡ now.hearing) }
         ensures given { OnOk result (let now = heard_end self.old self.old.awaited line.now (after_step steps)
             in out.new.items ≡ out.old.items ++ now.given) }
         ensures next { IfOk result (λ next. let now = heard_end self.old self.old.awaited line.now (after_step steps) in next ≡ now.next) }
     {
         let mut steps = steps;
-        match steps.go_on(alloc, out)? {
+        match steps.go_on(alloc)? {
             None => {
                 write_line(out, line)?;
                 self.steps = None;
@@ -355,12 +267,9 @@ impl Hearing {
                 self.steps = None;
                 Ok(Next::Resumes)
             }
-            LineKind::ListOk => {
-                steps.end_part(alloc, out)?;
-                self.put_back_step(steps)
-            }
+            LineKind::ListOk => self.put_back_step(steps),
             LineKind::Told => {
-                steps.take_line(alloc, out, line)?;
+                steps.take_line(line);
                 self.put_back_step(steps)
             }
         }
@@ -383,7 +292,7 @@ impl Hearing {
         match self.steps.take() {
             Some(steps) => self.hear_step(alloc, out, line, steps),
             None => {
-                let left = answer_passing(out, &mut self.shown, line, LineKind::of(line))?;
+                let left = answer_passing(out, line, LineKind::of(line))?;
                 self.put_back(left)
             }
         }
@@ -406,19 +315,15 @@ impl Hearing {
         let times = self.times;
         match first {
             Awaited::Passing => {
-                let left = answer_passing(out, &mut self.shown, line, kind)?;
-                self.put_back(left)
-            }
-            Awaited::Songs => {
-                let left = answer_songs(out, &mut self.shown, line, kind)?;
+                let left = answer_passing(out, line, kind)?;
                 self.put_back(left)
             }
             Awaited::One(change) => {
-                let left = answer_one(out, &mut self.shown, times, change, line, kind)?;
+                let left = answer_one(out, times, change, line, kind)?;
                 self.put_back(left)
             }
             Awaited::Several(several) => {
-                let left = answer_several(out, &mut self.shown, times, several, line, kind)?;
+                let left = answer_several(out, times, several, line, kind)?;
                 self.put_back(left)
             }
             Awaited::Step => self.hear_steps(alloc, out, line),

@@ -1,5 +1,5 @@
 //! What holds of every conversation.
-ghost use Rattle.std.specs.Prelude.{◌≡◌, ℕ, List, [], false, true, ◌∷◌, ◌++◌};
+ghost use Rattle.std.specs.Prelude.{◌≡◌, ℕ, List, true, ◌∷◌, ◌++◌};
 ghost use Rattle.command_text.specs.declared.request.Request.{Request};
 ghost use Rattle.client_session.specs.Requests.{requests_of};
 ghost use Rattle.stock_clients.specs.Asked.{asked_all};
@@ -11,13 +11,13 @@ ghost use Rattle.stock_clients.specs.declared.hearing.Hearing.{Hearing};
 
 /// A client that asks only for what the daemon itself understands is asked for as it asked.
 pub fn native_requests_pass()
-    ensures { (requests : List Request) → AreNative requests → IsAskedAsItIs requests (asked_all false requests) }
+    ensures { (requests : List Request) → AreNative requests → IsAskedAsItIs requests (asked_all requests) }
 {}
 
 /// What the daemon reads of what it is asked for such a client are just the requests that the client made.
 pub fn native_bytes_ask_the_same()
     ensures { (stream : List ℕ) → AreNative (requests_of stream)
-        → requests_of (asked_all false (requests_of stream)).native ≡ requests_of stream }
+        → requests_of (asked_all (requests_of stream)).native ≡ requests_of stream }
 {}
 
 /// Such a client is given the daemon's answers byte for byte, whatever the daemon says.

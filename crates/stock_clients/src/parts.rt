@@ -14,8 +14,6 @@ use stock_requests::Change;
 pub enum Part {
     /// Its part passes as it is.
     Same,
-    /// The same, but for the tags of songs that `tagtypes` has taken away.
-    Songs,
     /// Its part is changed.
     Changed(Change),
 }

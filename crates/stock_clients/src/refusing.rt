@@ -1,6 +1,5 @@
 // The line of a refusal, as the client is told it (MPD protocol reference 0.23, "Failure responses").
 ghost use Rattle.std.specs.Prelude.{◌≡◌, ◌++◌, drop, OnOk};
-ghost use Rattle.std.specs.Fmt.{decimal};
 ghost use Rattle.command_text.specs.Names.{name_text};
 ghost use Rattle.client_session.specs.Lines.{ended};
 ghost use Rattle.stock_clients.specs.Refused.{before, behind, braces, code_in, index_part, refusal_at, refusal_of, refusal_start};
@@ -8,10 +7,7 @@ ghost use Rattle.stock_clients.specs.Refused.{before, behind, braces, code_in, i
 use command_text::CommandName;
 use itoa::Buffer;
 use no_memory::NoMemory;
-use stock_requests::{Change, RefusalChange};
-
-// The code of the refusals that the daemon hasn't, that of a bad argument.
-const CODE: u8 = 2;
+use stock_requests::Change;
 
 // Adds what stands before the first such byte; all where there is none.
 fn add_before(out: &mut Vec<u8>, byte: u8, bytes: &[u8]) -> Result<(), NoMemory>
@@ -83,16 +79,6 @@ fn add_start_of(out: &mut Vec<u8>, index: usize, line: &[u8]) -> Result<(), NoMe
     add_index(out, index)
 }
 
-// The same with another code.
-fn add_start(out: &mut Vec<u8>, code: u8, index: usize) -> Result<(), NoMemory>
-    ensures { OnOk result (out.new.items ≡ out.old.items ++ refusal_start (decimal code) index) }
-{
-    let mut digits = Buffer::new();
-    add(out, b"ACK [")?;
-    add(out, digits.format(code).as_bytes())?;
-    add_index(out, index)
-}
-
 // Adds the name in braces.
 fn add_name(out: &mut Vec<u8>, name: CommandName) -> Result<(), NoMemory>
     ensures { OnOk result (out.new.items ≡ out.old.items ++ braces (name_text name)) }
@@ -120,20 +106,8 @@ pub(crate) fn write_refusal_of(
 ) -> Result<(), NoMemory>
     ensures { OnOk result (out.new.items ≡ out.old.items ++ ended (refusal_of change.now index line.now)) }
 {
-    match change.refusal {
-        RefusalChange::Named => {
-            add_start_of(out, index, line)?;
-            add_name(out, change.name)?;
-            add(out, tail(behind(b'}', line)))?;
-        }
-        RefusalChange::Replaced(refusal) => {
-            add_start(out, CODE, index)?;
-            add_name(out, change.name)?;
-            let text = refusal.text(change.name);
-            add(out, text.front.as_bytes())?;
-            add(out, text.name.as_bytes())?;
-            add(out, text.back.as_bytes())?;
-        }
-    }
+    add_start_of(out, index, line)?;
+    add_name(out, change.name)?;
+    add(out, tail(behind(b'}', line)))?;
     add(out, b"\n")
 }

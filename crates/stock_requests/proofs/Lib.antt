@@ -2,10 +2,4 @@ pub mod Texts
 pub mod WordLists
 pub mod Lines
 pub mod ReadBack
-pub mod Counting
-pub mod SetLaws
 pub mod Fitting
-pub mod GroupFits
-pub mod Ends
-pub mod Climbs
-pub mod Words

@@ -6,9 +6,9 @@ use Rattle.command_text.specs.declared.refusal.Refusal.{Refusal}
 use Rattle.command_text.specs.Counts.{Word}
 use Rattle.command_text.specs.Reading.{first_name, line_words, name_of_line}
 use Rattle.stock_requests.specs.declared.change.Ending.TheVariants.{Times}
-use Rattle.stock_requests.specs.declared.change.Translation.TheVariants.{Same, Songs}
+use Rattle.stock_requests.specs.declared.change.Translation.TheVariants.{Same}
 use Rattle.stock_requests.specs.declared.native.Handling.{Handling}
-use Rattle.stock_requests.specs.declared.native.Handling.TheVariants.{Untouched, TellsSongs, AddsTimes}
+use Rattle.stock_requests.specs.declared.native.Handling.TheVariants.{Untouched, AddsTimes}
 use Rattle.stock_requests.specs.Native.{adding, by_first, handling_of}
 use Rattle.stock_requests.specs.Translation as specs
 use Rattle.stock_requests.specs.Translation.{of_name, of_words, words_or_none}
@@ -55,10 +55,6 @@ untouched is_alone handling line name e = rw e (by_words (words_or_none (line_wo
     by_words : (words : List Word) → Same ≡ by_first is_alone Untouched name words
     by_words [] = refl
     by_words (word ∷ words) = refl
-
-pub tells_songs : (is_alone : Bool) (handling : Handling) (line : List ℕ) (name : CommandName) → name_of_line Wide line ≡ Some name
-    → handling ≡ TellsSongs → Songs ≡ by_first is_alone handling name (words_or_none (line_words line))
-tells_songs is_alone handling line name h e = let found = has_words line name h in rw (e, found.2) refl
 
 pub adds_times : (is_alone : Bool) (handling : Handling) (line : List ℕ) (name : CommandName) → name_of_line Wide line ≡ Some name
     → handling ≡ AddsTimes → adding name Times ≡ by_first is_alone handling name (words_or_none (line_words line))

@@ -6,13 +6,8 @@ use Rattle.std.proofs.lemmas.List.{append-nil, get_or_default}
 use Rattle.std.specs.Str.{bytes_eq}
 use Rattle.command_text.specs.Counts.{Word}
 use Rattle.command_text.specs.Finding.{begins_part}
-use Rattle.stock_requests.specs.declared.mask.TagSet.{TagSet}
-use Rattle.song_files.specs.declared.tag.Tag.{Tag}
 use Rattle.stock_requests.specs.Filters.{more_pairs, native_pair, native_parts}
-use Rattle.stock_requests.specs.Masks.{only_tag, with_tags}
-use Rattle.stock_requests.specs.Native.{with_named}
 use Rattle.stock_requests.specs.Spelling.{escaped, escaped_byte, space, spelled_word, spelled_words, words_eq}
-use Rattle.song_files.specs.Tag.{tag_named}
 
 pub item_at : {A : Type 0} (s : List A) (i : ℕ) (x : A) → i < length s → x ≡ get_or s i x → drop i s ≡ x ∷ drop (i + 1) s
 item_at s i x h e = rw (add-one, drop-cons s i x) (ap (λ y. y ∷ drop (suc i) s) (sym e))
@@ -84,30 +79,12 @@ other_lengths [] [] h = absurd (h refl)
 other_lengths [] (other ∷ others) h = refl
 other_lengths (word ∷ words) [] h = refl
 other_lengths (word ∷ words) (other ∷ others) h =
-    by_test (bytes_eq word other) (other_lengths words others (λ e. h (let same : length (word ∷ words) ≡ length (other ∷ others) = omega arith in same)))
+    by_test (bytes_eq word other) (other_lengths words others (λ e. h (let same : length (word ∷ words)
+    ≡ length (other ∷ others) = omega arith in same)))
   where
     by_test : (b : Bool) → words_eq words others ≡ false → (b && words_eq words others) ≡ false
     by_test true e = e
     by_test false e = refl
-
--- tags named one by one
-pub named_more : (set whole : TagSet) (words : List Word) (i : ℕ) (word bytes : Word) (tag : Tag) (rest : Option TagSet) → i < length words
-    → word ≡ get_or words i word → bytes ≡ word → Some tag ≡ tag_named bytes → with_named set (drop i words) ≡ rest
-    → whole ≡ with_tags set (only_tag tag) → with_named whole (drop (i + 1) words) ≡ rest
-unfolding with_named
-named_more set whole words i word bytes tag rest lt at same is before new =
-    ap (λ (n : TagSet). with_named n (drop (i + 1) words)) new
-    ∙ sym (ap (with_named set) (item_at words i word lt at) ∙ rw (sym (is ∙ ap tag_named same)) refl) ∙ before
-
-pub named_none : (set : TagSet) (words : List Word) (i : ℕ) (word bytes : Word) (rest : Option TagSet) → i < length words
-    → word ≡ get_or words i word → bytes ≡ word → None ≡ tag_named bytes → with_named set (drop i words) ≡ rest → None ≡ rest
-unfolding with_named
-named_none set words i word bytes rest lt at same is before =
-    sym (ap (with_named set) (item_at words i word lt at) ∙ rw (sym (is ∙ ap tag_named same)) refl) ∙ before
-
-pub named_end : (set : TagSet) (words : List Word) (i : ℕ) (rest : Option TagSet) → length words ≤ i → with_named set (drop i words) ≡ rest → Some set ≡ rest
-unfolding with_named
-named_end set words i rest le before = sym (ap (with_named set) (none_left words i le)) ∙ before
 
 -- words added one by one
 pub words_on : (front out whole : List Word) (words : List Word) (i : ℕ) (word new : Word) → i < length words → word ≡ get_or words i word
@@ -165,7 +142,8 @@ unfolding more_pairs
 pairs_go sorts within front out words whole i name bytes value le at same next e is before =
     let two = two_at words i name value le at next in
     let no_part : (sorts && begins_part true name) ≡ false = ap (λ (w : Word). sorts && begins_part true w) (sym same) ∙ e in
-    let read : more_pairs sorts within (name ∷ value ∷ drop (i + 2) words) ≡ native_pair within name value ++ more_pairs sorts within (drop (i + 2) words) =
+    let read : more_pairs sorts within (name ∷ value ∷ drop (i + 2) words) ≡ native_pair within name value ++ more_pairs sorts within
+    (drop (i + 2) words) =
     rw no_part refl in
     let rest = more_pairs sorts within (drop (i + 2) words) in
     ap (λ (s : List Word). s ++ rest) is ∙ append_assoc front (native_pair within name value) rest

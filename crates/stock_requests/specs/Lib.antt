@@ -1,13 +1,8 @@
-pub mod Counted
 pub mod Expressions
 pub mod Filters
 pub mod Fits
-pub mod Grouped
-pub mod Groups
-pub mod Masks
 pub mod Native
 pub mod Shuffles
 pub mod Spelling
 pub mod Steps
-pub mod Texts
 pub mod Translation

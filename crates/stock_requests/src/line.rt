@@ -66,7 +66,7 @@ fn by_words(
 }
 
 /// What becomes of a line that begins with a command which is handled so.
-#[tactic(auto, using(crate::proofs::Lines::untouched, crate::proofs::Lines::tells_songs, crate::proofs::Lines::adds_times))]
+#[tactic(auto, using(crate::proofs::Lines::untouched, crate::proofs::Lines::adds_times))]
 fn of_native(
     alloc: Global,
     is_alone: bool,
@@ -80,14 +80,11 @@ fn of_native(
 {
     match handling {
         Handling::Untouched => Ok(Translation::Same),
-        Handling::TellsSongs => Ok(Translation::Songs),
         Handling::AddsTimes => Ok(adding(name, Ending::Times)),
-        Handling::Filters(_, _)
-        | Handling::Searches(_, _)
+        Handling::Filters(_)
+        | Handling::Searches(_)
         | Handling::AddsToPlaylist
-        | Handling::Counts
         | Handling::ListsValues
-        | Handling::Masks
         | Handling::Shuffles => by_words(alloc, is_alone, handling, name, line),
     }
 }

@@ -43,7 +43,7 @@ fn put_escaped_byte(out: &mut Vec<u8>, byte: u8) -> Result<(), AllocError>
 }
 
 /// Adds a text with a backslash before each quote and each backslash.
-pub(crate) fn put_escaped(out: &mut Vec<u8>, text: &[u8]) -> Result<(), AllocError>
+fn put_escaped(out: &mut Vec<u8>, text: &[u8]) -> Result<(), AllocError>
     ensures { OnOk result (out.new.items ≡ out.old.items ++ escaped text.now) }
 {
     for byte in text {
@@ -67,7 +67,7 @@ fn put_word(out: &mut Vec<u8>, word: &[u8]) -> Result<(), AllocError>
 }
 
 /// Adds a word behind a space.
-pub(crate) fn put_argument(out: &mut Vec<u8>, word: &[u8]) -> Result<(), AllocError>
+fn put_argument(out: &mut Vec<u8>, word: &[u8]) -> Result<(), AllocError>
     ensures { OnOk result (out.new.items ≡ out.old.items ++ (space ∷ spelled_word word.now)) }
 {
     out.push(b' ')?;
@@ -75,7 +75,7 @@ pub(crate) fn put_argument(out: &mut Vec<u8>, word: &[u8]) -> Result<(), AllocEr
 }
 
 /// Adds words, a space before each.
-pub(crate) fn put_words(out: &mut Vec<u8>, words: &[LineWord<'_>]) -> Result<(), AllocError>
+fn put_words(out: &mut Vec<u8>, words: &[LineWord<'_>]) -> Result<(), AllocError>
     ensures { OnOk result (out.new.items ≡ out.old.items ++ spelled_words words.now) }
 {
     for word in words {

@@ -1,7 +1,10 @@
 // `player_core`: the words beside another implementation, random order, the texts of errors, and the played list where entries leave.
 use crate::assertions::{equal, same_numbers, same_text, uri};
 use play_queue::{Entries, Entry, Queue, QueueBuilder};
-use player_core::{Block, Options, PlayFailure, PlaySettings, Player, Single, word};
+use player_core::{
+    Block, BrokenCause, Manners, Options, PlayFailure, PlaySettings, PlayState, Player, Selector,
+    Single, word,
+};
 use song_db::{RowUri, Uri};
 use std::alloc::Global;
 use std::process::Abort;
@@ -89,6 +92,7 @@ fn random_settings(order: u64) -> PlaySettings {
             single: Single::Off,
             consume: Single::Off,
         },
+        manners: Manners::Named,
         key: RISING,
         order,
     }
@@ -157,4 +161,144 @@ const REMOVALS: [(usize, usize, usize, bool); 8] = [
     (5, 10, 50, true),
     (60, 30, 38, false),
     (60, 59, 61, false),
+];
+
+/// A queue of a.wav with the ids 1, 2 and so on.
+fn plain_queue(alloc: Global, count: u32) -> Result<Queue, Fail> {
+    let mut builder = QueueBuilder::new(alloc, 1, count.saturating_add(1))
+        .ok()
+        .ok_or("a version or a next id was refused")?;
+    for at in 0..count {
+        let entry = Entry {
+            id: at + 1,
+            uri: RowUri::new(uri(alloc, "a.wav")?, 0),
+            priority: 0,
+            stamp: 1,
+        };
+        builder.push(entry).ok().ok_or("an entry was refused")?;
+    }
+    Ok(builder.finish())
+}
+
+// The options of these letters: r repeat, s single, o single once, c consume.
+fn settings_by(letters: &str) -> PlaySettings {
+    let letters = letters.as_bytes();
+    let single = if letters.contains(&b's') {
+        Single::On
+    } else if letters.contains(&b'o') {
+        Single::Oneshot
+    } else {
+        Single::Off
+    };
+    let consume = if letters.contains(&b'c') {
+        Single::On
+    } else {
+        Single::Off
+    };
+    PlaySettings {
+        options: Options {
+            repeat: letters.contains(&b'r'),
+            random: false,
+            single,
+            consume,
+        },
+        manners: Manners::Mpd,
+        key: RISING,
+        order: 0,
+    }
+}
+
+/// The song that plays can't be read where it is a bad one, else it ends. What leaves the queue and which option is then off is done.
+fn go_on(
+    queue: &mut Queue,
+    player: &mut Player,
+    settings: &mut PlaySettings,
+    is_bad: bool,
+) -> Result<(), Fail> {
+    let ticket = player.ticket();
+    let changes = if is_bad {
+        player.failed(queue.entries(), settings, ticket, BrokenCause::Source)?
+    } else {
+        player.ended(queue.entries(), settings, ticket)?
+    };
+    if changes.single_off {
+        settings.options.single = Single::Off;
+    }
+    if let Some(at) = changes.removed {
+        queue
+            .delete_range(at, at.saturating_add(1))
+            .ok()
+            .ok_or("a deletion was refused")?;
+    }
+    Ok(())
+}
+
+/// The ids of up to eight songs as they play, of which these can't be read; behind them 0 where the player stops without a song, 90 where it
+/// stops with the last one, 91 where that is paused.
+fn heard(
+    alloc: Global,
+    count: u32,
+    bad: &[u32],
+    letters: &str,
+    from: u32,
+) -> Result<Vec<u32>, Fail> {
+    let mut queue = plain_queue(alloc, count)?;
+    let mut settings = settings_by(letters);
+    let mut player = Player::new(alloc);
+    let mut ids = Vec::new(alloc);
+    let _ = player.play(queue.entries(), &settings, Selector::Id(from))?;
+    for _ in 0..8 {
+        let Some(id) = player.current() else {
+            ids.push(0)?;
+            break;
+        };
+        match player.state() {
+            PlayState::Play => ids.push(id)?,
+            PlayState::Stop => {
+                ids.push(90)?;
+                break;
+            }
+            PlayState::Pause => {
+                ids.push(id)?;
+                ids.push(91)?;
+                break;
+            }
+        }
+        go_on(&mut queue, &mut player, &mut settings, bad.contains(&id))?;
+    }
+    Ok(ids)
+}
+
+#[test]
+fn songs_past_what_cannot_be_read(rt: HostRuntime) -> Result<(), Fail> {
+    for (count, bad, letters, from, want) in &COURSES {
+        let ids = heard(rt.alloc(), *count, bad, letters, *from)?;
+        same_numbers(&rt, &ids, want);
+    }
+    Ok(())
+}
+
+// As MPD 0.23.12 plays them, but for the fifth and sixth: it counts failures over songs that are played between, and stops.
+const COURSES: [(u32, &[u32], &str, u32, &[u32]); 21] = [
+    (3, &[2], "", 1, &[1, 2, 3, 0]),
+    (3, &[3], "", 2, &[2, 3, 0]),
+    (3, &[1], "", 1, &[1, 2, 3, 0]),
+    (3, &[1, 2, 3], "", 2, &[2, 3, 0]),
+    (3, &[2], "r", 1, &[1, 2, 3, 1, 2, 3, 1, 2]),
+    (3, &[2, 3], "r", 1, &[1, 2, 3, 1, 2, 3, 1, 2]),
+    (3, &[1, 2, 3], "r", 2, &[2, 3, 1, 90]),
+    (1, &[1], "r", 1, &[1, 90]),
+    (3, &[2], "s", 2, &[2, 3, 0]),
+    (3, &[2], "o", 2, &[2, 3, 0]),
+    (3, &[2], "rs", 2, &[2, 90]),
+    (3, &[2], "c", 1, &[1, 2, 3, 0]),
+    (3, &[1, 2, 3], "c", 1, &[1, 2, 3, 90]),
+    (3, &[2], "sc", 2, &[2, 3, 0]),
+    (3, &[], "s", 1, &[1, 2, 91]),
+    (3, &[], "s", 3, &[3, 0]),
+    (3, &[], "rs", 3, &[3, 3, 3, 3, 3, 3, 3, 3]),
+    (3, &[], "o", 1, &[1, 2, 91]),
+    (3, &[], "ro", 1, &[1, 1, 1, 1, 1, 1, 1, 1]),
+    (3, &[], "sc", 1, &[1, 2, 91]),
+    (3, &[], "rsc", 1, &[1, 2, 3, 0]),
 ];

@@ -109,6 +109,7 @@ fn append_command_text(
         CommandRefusal::RequestTooLarge => append(out, &[b"request too large"]),
         CommandRefusal::OutOfMemory => append(out, &[b"out of memory"]),
         CommandRefusal::Setup(refusal) => append(out, &[refusal.text().as_bytes()]),
+        CommandRefusal::Tags(refusal) => append(out, &[refusal.text().as_bytes()]),
     }
 }
 

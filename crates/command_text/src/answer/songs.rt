@@ -1,13 +1,14 @@
 //! The lines of a song, and of an entry of the queue (MPD protocol reference 0.23, "Other Metadata").
 ghost use Rattle.play_queue.specs.Shown.{shown};
 ghost use Rattle.command_text.specs.Answer.{Adds, pair};
-ghost use Rattle.command_text.specs.AnswerSongs.{file_line, modified_line, head_lines, format_text, tag_line};
+ghost use Rattle.command_text.specs.AnswerSongs.{file_line, modified_line, head_lines, format_text, tag_line, shown_line};
 ghost use Rattle.command_text.specs.AnswerSongs.{tag_lines, song_lines, priority_line, entry_lines};
 ghost use Rattle.command_text.specs.AnswerSongs.{place_lines, id_line, numbered_file};
 
 use crate::answer::dates::write_time;
 use crate::answer::pairs::{append, write_number, write_pair, write_position_and_id};
 use crate::answer::times::{write_exact_seconds, write_whole_seconds};
+use crate::tag_mask::TagMask;
 use filter_expr::known_time;
 use itoa::Buffer;
 use no_memory::NoMemory;
@@ -67,24 +68,36 @@ fn write_tag(out: &mut Vec<u8>, tag: Tag, text: &str) -> Result<(), NoMemory>
     write_pair(out, tag.name(), text.as_bytes())
 }
 
-/// Adds a line for each text of a song's tags.
-fn write_tags(out: &mut Vec<u8>, tags: &Tags) -> Result<(), NoMemory>
-    ensures { Adds (tag_lines tags.now) result out.old out.new }
+/// Adds the line of a text, if the client sees its tag.
+fn write_shown(out: &mut Vec<u8>, mask: TagMask, tag: Tag, text: &str) -> Result<(), NoMemory>
+    ensures { Adds (shown_line mask (record { tag = tag; text = text.now })) result out.old out.new }
+{
+    if mask.contains(tag) {
+        write_tag(out, tag, text)
+    } else {
+        Ok(())
+    }
+}
+
+/// Adds a line for each text of a song's tags that the client sees.
+fn write_tags(out: &mut Vec<u8>, mask: TagMask, tags: &Tags) -> Result<(), NoMemory>
+    ensures { Adds (tag_lines mask tags.now) result out.old out.new }
 {
     for at in 0..tags.len() {
         let (tag, text) = tags.at(at);
-        write_tag(out, tag, text)?;
+        write_shown(out, mask, tag, text)?;
     }
     Ok(())
 }
 
-/// Adds the lines of a song: `file`, `Last-Modified` where that is known, `Format`, its tags, `Time` and `duration`.
-pub fn write_song(out: &mut Vec<u8>, row: &SongRow) -> Result<(), NoMemory>
-    ensures { Adds (song_lines row.now) result out.old out.new }
+/// Adds the lines of a song: `file`, `Last-Modified` where that is known, `Format`, those of its tags that the client sees, `Time` and
+/// `duration`.
+pub fn write_song(out: &mut Vec<u8>, mask: TagMask, row: &SongRow) -> Result<(), NoMemory>
+    ensures { Adds (song_lines mask row.now) result out.old out.new }
 {
     write_head(out, row)?;
     write_format(out, "Format", row.info())?;
-    write_tags(out, row.tags())?;
+    write_tags(out, mask, row.tags())?;
     let milliseconds = row.milliseconds();
     write_whole_seconds(out, "Time", milliseconds)?;
     write_exact_seconds(out, "duration", milliseconds)
@@ -103,13 +116,14 @@ fn write_priority(out: &mut Vec<u8>, priority: u8) -> Result<(), NoMemory>
 /// Adds the lines of an entry at a position of the queue: those of its song, `Pos`, `Id`, and `Prio` where it isn't 0.
 pub fn write_entry(
     out: &mut Vec<u8>,
+    mask: TagMask,
     row: &SongRow,
     position: usize,
     entry: &EntryRef<'_>,
 ) -> Result<(), NoMemory>
-    ensures { Adds (entry_lines row.now position (shown entry.now)) result out.old out.new }
+    ensures { Adds (entry_lines mask row.now position (shown entry.now)) result out.old out.new }
 {
-    write_song(out, row)?;
+    write_song(out, mask, row)?;
     write_number(out, "Pos", position)?;
     write_number(out, "Id", entry.id)?;
     write_priority(out, entry.priority)

@@ -8,16 +8,21 @@ ghost use Rattle.command_text.specs.Finding.{filter_length, value_behind, second
 ghost use Rattle.command_text.specs.Finding.{nothing_left};
 ghost use Rattle.command_text.specs.Finding.{search_parts, find_of, find_add_of, filter_alone, add_to_playlist_of, list_of, finding_of};
 ghost use Rattle.command_text.specs.Finding.{files_of, is_artist_alone, is_file, listed_words, values_of};
+ghost use Rattle.command_text.specs.Finding.{count_of, filter_if_any, group_counts_of, grouped_tag, groups_of, listing_of};
+ghost use Rattle.command_text.specs.Groups.{takes_groups};
 ghost use Rattle.command_text.specs.Stops.{Reads, ReadsAs};
 
 use crate::argument::{argument, target, window};
+use crate::command::groups::{MOST_ENDS, end_tag, last_tag, part_ends, takes_groups};
 use crate::named::{filter_argument, playlist_name, sort_order, tag_argument};
 use crate::range::Window;
 use crate::refusal::CommandRefusal;
 use crate::stop::Stop;
+use crate::tag_list::TagList;
+use crate::tag_mask::TagMask;
 use crate::text::Text;
 use crate::topic::FindingName;
-use filter_expr::{Case, Filter, LineWord, SortOrder};
+use filter_expr::{Case, Filter, LineWord, SortOrder, tag_named};
 use play_queue::Target;
 use profile::Profile;
 use song_files::Tag;
@@ -41,11 +46,15 @@ pub enum FindingCommand<'w> {
     /// Adds what is found, the case of letters aside, to a playlist.
     AddToPlaylist(Text<'w>, Filter),
     Count(Filter),
+    /// How many songs have each value of a tag, of all songs or of those that match.
+    CountGroups(Tag, Option<Filter>),
     Find(Search),
     /// The entries of the queue that match.
     InQueue(Case, Filter),
     /// The files of all songs or of those that match.
     ListFiles(Option<Filter>),
+    /// The distinct values of tags, each within those of the tag before it, of all songs or of those that match.
+    ListGroups(TagList, Option<Filter>),
     /// The distinct values of a tag, of all songs or of those that match.
     ListTag(Tag, Option<Filter>),
 }
@@ -61,7 +70,7 @@ pub(crate) fn read<'w>(
     ensures { Reads result (finding_of profile name words.now) }
 {
     match name {
-        FindingName::Count => Ok(FindingCommand::Count(filter_alone(alloc, profile, words)?)),
+        FindingName::Count => count(alloc, profile, words),
         FindingName::Find => find(alloc, profile, Case::Exact, words),
         FindingName::FindAdd => find_add(alloc, profile, Case::Exact, words),
         FindingName::ListTag => list(alloc, profile, words),
@@ -354,9 +363,100 @@ fn list<'w>(
             if is_file(profile, name.bytes()) {
                 return files(alloc, profile, words);
             }
-            list_behind(alloc, profile, name.bytes(), words)
+            listing(alloc, profile, name.bytes(), words)
         }
     }
+}
+
+/// The values of a tag, or those within the values of others, with these words behind its name.
+fn listing<'w>(
+    alloc: Global,
+    profile: Profile,
+    name: &[u8],
+    words: &'w [LineWord<'_>],
+) -> Result<FindingCommand<'w>, Stop>
+    ensures { Reads result (listing_of profile name.now words.now (grouped_tag profile name.now words.now)) }
+{
+    match grouped_tag(profile, name, words) {
+        None => list_behind(alloc, profile, name, words),
+        Some(tag) => groups(alloc, profile, tag, words),
+    }
+}
+
+/// The tag of a `list` that ends in `group TAG`.
+fn grouped_tag(profile: Profile, name: &[u8], words: &[LineWord<'_>]) -> Option<Tag>
+    ensures { result ≡ grouped_tag profile name.now words.now }
+{
+    if takes_groups(profile, words) {
+        tag_named(profile, name)
+    } else {
+        None
+    }
+}
+
+/// A filter and nothing behind it, if there is a word.
+fn filter_if_any(
+    alloc: Global,
+    profile: Profile,
+    words: &[LineWord<'_>],
+) -> Result<Option<Filter>, Stop>
+    ensures { Reads result (filter_if_any profile words.now) }
+{
+    if words.is_empty() {
+        return Ok(None);
+    }
+    let filter = filter_alone(alloc, profile, words)?;
+    Ok(Some(filter))
+}
+
+/// The values of a tag within those of others.
+fn groups<'w>(
+    alloc: Global,
+    profile: Profile,
+    tag: Tag,
+    words: &'w [LineWord<'_>],
+) -> Result<FindingCommand<'w>, Stop>
+    ensures { Reads result (groups_of profile tag words.now) }
+{
+    let mut tags = TagList::new(alloc);
+    match part_ends(MOST_ENDS, TagMask::only(tag), words, &mut tags)? {
+        Err(refusal) => Err(Stop::Refused(refusal)),
+        Ok(end) => {
+            let filter = filter_if_any(alloc, profile, &words[..end])?;
+            tags.push(tag)?;
+            Ok(FindingCommand::ListGroups(tags, filter))
+        }
+    }
+}
+
+/// How many songs match, or how many have each value of a tag.
+fn count<'w>(
+    alloc: Global,
+    profile: Profile,
+    words: &'w [LineWord<'_>],
+) -> Result<FindingCommand<'w>, Stop>
+    ensures { Reads result (count_of profile words.now) }
+{
+    if takes_groups(profile, words) {
+        return count_groups(alloc, profile, words);
+    }
+    let filter = filter_alone(alloc, profile, words)?;
+    Ok(FindingCommand::Count(filter))
+}
+
+/// The songs of each value of a tag.
+#[tactic(auto, unfolding(crate::specs::Finding::group_counts_of))]
+fn count_groups<'w>(
+    alloc: Global,
+    profile: Profile,
+    words: &'w [LineWord<'_>],
+) -> Result<FindingCommand<'w>, Stop>
+    requires { 2 ≤ length words.now }
+    ensures { Reads result (group_counts_of profile words.now) }
+{
+    let tag = end_tag(TagMask::empty(), last_tag(words))?;
+    let filter = filter_if_any(alloc, profile, &words[..words.len() - 2])?;
+    Ok(FindingCommand::CountGroups(tag, filter))
 }
 
 /// Whether songs' files stand in a tag's place of `list`.

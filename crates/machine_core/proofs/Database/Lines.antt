@@ -4,21 +4,22 @@ use Rattle.std.proofs.lemmas.Option.{get_or_from_slice_get, slice_get_within}
 use Rattle.std.specs.Global.{Vec}
 use Rattle.std.specs.Vec.{vec_len}
 use Rattle.command_text.specs.Answer.{Adds}
-use Rattle.command_text.specs.AnswerNames.{tag_type_line}
+use Rattle.command_text.specs.declared.tag_mask.TagMask.{TagMask}
 use Rattle.song_files.specs.Tag.{all_tags, tag_at}
 use Rattle.song_files.specs.TagSet.{has_tag}
 use Rattle.song_files.specs.declared.tag.Tag.{Tag}
 use Rattle.song_files.specs.declared.tag_set.TagSet.{TagSet}
 use Rattle.std.proofs.Common.{◌≡◌, ℕ, ◌+◌, ◌<◌, add-one, List, ◌∷◌, length, drop, get_or, refl, ap}
 use Rattle.std.proofs.Math.Seq.{drop-cons}
+use Rattle.machine_core.specs.Database.{shown_type}
 
 -- the items that are left behind the one at an index
 pub next_item : {X : Type 0} (xs : List X) (i : ℕ) (x : X) → i < length xs → get_or xs i x ∷ drop (i + 1) xs ≡ drop i xs
 next_item xs i x h = rw (add-one, drop-cons xs i x) refl
 
 -- the line of a tag that a set has
-abbrev pub type_in : TagSet → Tag → List ℕ
-type_in tags tag = if has_tag tags tag then tag_type_line tag else []
+abbrev pub type_in : TagMask → TagSet → Tag → List ℕ
+type_in mask tags tag = if has_tag tags tag then shown_type mask tag else []
 
 -- the tags that are left behind the one with a number
 pub next_tag : (n : ℕ) (tag : Tag) → tag_at n ≡ Some tag → drop n all_tags ≡ tag ∷ drop (n + 1) all_tags

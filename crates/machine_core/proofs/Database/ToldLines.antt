@@ -8,6 +8,7 @@ use Rattle.std.specs.Option.{is_none, option_copied}
 use Rattle.std.specs.Prelude.{if◌then◌else◌}
 use Rattle.command_text.proofs.LineLoops.{Leaves}
 use Rattle.command_text.specs.declared.refusal.CommandRefusal.TheVariants.{NoSuchUri}
+use Rattle.command_text.specs.declared.tag_mask.TagMask.{TagMask}
 use Rattle.profile.specs.declared.profile.Profile.TheVariants.{Named, Wide}
 use Rattle.song_db.specs.Query.{folder_of, is_folder, is_right_in}
 use Rattle.song_db.specs.Row.{Row}
@@ -92,12 +93,12 @@ below_told detail s place profile there =
     else Err NoSuchUri
 
 -- and what stands right in it
-pub folder_by_uri : (s : SavedState) (place : Place) → s.profile ≡ Named → is_folder s.songs place ≡ true
-    → folder_info s place ≡ Ok (content_lines Named s.songs place ++ [])
-folder_by_uri s place profile there =
-    λ i. if there i then Ok (content_lines (profile i) s.songs place ++ root_lists (profile i) s.lists place) else Err NoSuchUri
+pub folder_by_uri : (mask : TagMask) (s : SavedState) (place : Place) → s.profile ≡ Named → is_folder s.songs place ≡ true
+    → folder_info mask s place ≡ Ok (content_lines mask Named s.songs place ++ [])
+folder_by_uri mask s place profile there =
+    λ i. if there i then Ok (content_lines mask (profile i) s.songs place ++ root_lists (profile i) s.lists place) else Err NoSuchUri
 
-pub folder_told : (s : SavedState) (place : Place) → s.profile ≡ Wide → is_folder s.songs place ≡ true
-    → folder_info s place ≡ Ok (content_lines Wide s.songs place ++ root_lists s.profile s.lists place)
-folder_told s place profile there =
-    λ i. if there i then Ok (content_lines (profile i) s.songs place ++ root_lists s.profile s.lists place) else Err NoSuchUri
+pub folder_told : (mask : TagMask) (s : SavedState) (place : Place) → s.profile ≡ Wide → is_folder s.songs place ≡ true
+    → folder_info mask s place ≡ Ok (content_lines mask Wide s.songs place ++ root_lists s.profile s.lists place)
+folder_told mask s place profile there =
+    λ i. if there i then Ok (content_lines mask (profile i) s.songs place ++ root_lists s.profile s.lists place) else Err NoSuchUri

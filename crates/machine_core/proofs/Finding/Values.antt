@@ -34,11 +34,11 @@ texts_suc (x ∷ xs) zero t tag here =
     by_cases false = refl
 texts_suc (x ∷ xs) (suc at) t tag here = texts_suc xs at t tag here
 
-texts_next : (tags : List TagText) (at : ℕ) (t : TagText) (tag : Tag) → slice_get tags at ≡ Some t
+pub texts_next : (tags : List TagText) (at : ℕ) (t : TagText) (tag : Tag) → slice_get tags at ≡ Some t
     → texts_of (drop at tags) tag ≡ cond (is_tag t.tag tag) (t.text ∷ texts_of (drop (at + 1) tags) tag) (texts_of (drop (at + 1) tags) tag)
 texts_next tags at t tag here = rw add-one (texts_suc tags at t tag here)
 
-drop_all : (tags : List TagText) (at : ℕ) → length tags ≤ at → drop at tags ≡ []
+pub drop_all : (tags : List TagText) (at : ℕ) → length tags ≤ at → drop at tags ≡ []
 drop_all [] zero past = refl
 drop_all [] (suc at) past = refl
 drop_all (x ∷ xs) zero past = absurd (omega arith)

@@ -92,6 +92,14 @@ pub stopped_writing : {B : Type 0} (all more left : List ℕ) (before now after 
 stopped_writing all more left before now after e result h a failed =
     h result after (writes_stop more left e result now after a failed)
 
+-- it was refused within a line of two parts
+pub stopped_within : {B : Type 0} (all front back left : List ℕ) (before now after : Vec ℕ) (e : WantOfMemory)
+    (result : Result (Unit {0}) WantOfMemory) → Remains all ((front ++ back) ++ left) before now
+    → Writes {A = B} {E = WantOfMemory} front (Err e) now after → IsErr result → Writes all result before after
+stopped_within {B} all front back left before now after e result h a failed =
+    h result after (writes_stop (front ++ back) left e result now after
+    (writes_stop {A = B} {B = B} {E = WantOfMemory} {D = WantOfMemory} front back e (Err e) now after a refl) failed)
+
 pub stopped_looking : (all left : List ℕ) (before now : Vec ℕ) (result : Result (Unit {0}) WantOfMemory) → Remains all left before now
     → IsErr result → Writes all result before now
 stopped_looking all left before now result h failed = h result now (writes_no_more left result now failed)

@@ -2,14 +2,20 @@
 -- `single` and `consume` turn off from oneshot alone.
 use Rattle.std.proofs.Common.{◌≡◌, ℕ, ◌+◌, ◌<◌, ◌==◌, Bool, true, false, List, [], length, refl, ap, ◌∙◌, arith}
 use Rattle.std.proofs.Common.{Option, Some, None, Result, Ok, Err}
-use Rattle.std.specs.Prelude.{filter, if◌then◌else◌, cond, ltb, option_map}
+use Rattle.std.specs.Prelude.{filter, if◌then◌else◌, cond, ltb, option_map, not, ◌&&◌}
 use Rattle.std.specs.List.{position_or_len}
 use Rattle.std.proofs.lemmas.Bool.{ltb-true, false≢true}
 use Rattle.play_queue.specs.declared.entry.Entry.{Entry}
 use Rattle.player_core.specs.Staying.{all_staying, staying_behind, first_id}
 use Rattle.player_core.specs.Choice.{chosen, is_left, nothing, this_round, new_round, or_else, round_again, placed, least}
 use Rattle.player_core.specs.Commands.{named, begun, to_resume, resumed, stepped_if_any, unless_stopped}
-use Rattle.player_core.specs.Ending.{consumed, after_single, followed_by, order_of, is_on, is_oneshot, over_at, over, ended_in}
+use Rattle.player_core.specs.Ending.{consumed, after_single, single_by, followed_by, order_of, is_on, is_oneshot, over_at, over, ended_in}
+use Rattle.player_core.specs.Ending.{turns_off}
+use Rattle.player_core.specs.Order.{current_entry}
+use Rattle.player_core.specs.Reports.{broken, failed_of, passed, passes}
+use Rattle.player_core.specs.declared.failure.BrokenCause.{BrokenCause}
+use Rattle.player_core.specs.declared.manners.Manners.{Manners}
+use Rattle.player_core.specs.declared.manners.Manners.TheVariants as manners
 use Rattle.player_core.specs.Player.{PlayerState, Step, unchanged}
 use Rattle.player_core.specs.Words.{next_order}
 use Rattle.player_core.specs.declared.block.Block.{Block}
@@ -23,7 +29,7 @@ use Rattle.player_core.specs.declared.settings.PlaySettings.{PlaySettings}
 use Rattle.play_queue.specs.Entries.{Uris}
 use Rattle.machine_core.specs.Steps.{from_named, step_of}
 use Rattle.machine_core.specs.declared.steps.PlayerStep.{PlayerStep}
-use Rattle.machine_core.specs.declared.steps.PlayerStep.TheVariants.{Resume, Play, Seek, Next, Ended}
+use Rattle.machine_core.specs.declared.steps.PlayerStep.TheVariants.{Resume, Play, Seek, Next, Ended, Failed}
 
 -- what a step says of the saved half
 pub record IsFair (made : Step) (entries : List Entry) (settings : PlaySettings) : Type 0 where
@@ -100,14 +106,22 @@ single_grows order current true repeat = none_grows order
 single_grows order current false true = none_grows order
 single_grows order current false false = none_grows order
 
+by_grows : (order current : ℕ) (by : Manners) (consume repeat : Bool) (next : Choice) → Grows order next.order →
+    Grows order (order_of (single_by by consume repeat current next))
+by_grows order current manners.Named consume repeat next h = single_grows order current consume repeat
+by_grows order current manners.Mpd consume repeat next h =
+    if_grows order (not consume && repeat) (this_round (Some current)) next (none_grows order) h
+
 followed_grows : (settings : PlaySettings) (mode : Single) (entries : List Entry) (played : List ℕ) (at current : ℕ) →
     Grows settings.order (order_of (followed_by settings mode entries played at current))
 followed_grows settings singles.Off entries played at current =
     chosen_grows settings entries (consumed (is_on settings.options.consume) at) [] played at current
 followed_grows settings singles.On entries played at current =
-    single_grows settings.order current (is_on settings.options.consume) settings.options.repeat
+    by_grows settings.order current settings.manners (is_on settings.options.consume) settings.options.repeat _
+    (chosen_grows settings entries (consumed (is_on settings.options.consume) at) [] played at current)
 followed_grows settings singles.Oneshot entries played at current =
-    single_grows settings.order current (is_on settings.options.consume) settings.options.repeat
+    by_grows settings.order current settings.manners (is_on settings.options.consume) settings.options.repeat _
+    (chosen_grows settings entries (consumed (is_on settings.options.consume) at) [] played at current)
 
 -- a step that changes the order alone, or nothing
 order_fair : (made : Step) (entries : List Entry) (settings : PlaySettings) → made.changes.removed ≡ None →
@@ -148,6 +162,11 @@ oneshot_is singles.Off is = absurd (cc)
 oneshot_is singles.On is = absurd (cc)
 oneshot_is singles.Oneshot is = refl
 
+turned_oneshot : (mode : Single) (by : Manners) (after : PlayState) → turns_off mode by after ≡ true → is_oneshot mode ≡ true
+turned_oneshot singles.Off by after is = is
+turned_oneshot singles.On by after is = is
+turned_oneshot singles.Oneshot by after is = refl
+
 over_fair : (entries : List Entry) (settings : PlaySettings) (mode : Single) (player : PlayerState) →
     (is_oneshot mode ≡ true → settings.options.single ≡ singles.Oneshot) → IsFair (over entries settings mode player) entries settings
 over_fair entries settings mode player once = of (placed entries player.current) refl where
@@ -158,7 +177,7 @@ over_fair entries settings mode player once = of (placed entries player.current)
     order = followed_grows settings mode entries player.played place.0 place.1;
     removed = λ at removed.
         consumed_within entries (is_on settings.options.consume) place.0 at (placed_within entries player.current place is) removed;
-    single = once;
+    single = λ is. once (turned_oneshot mode settings.manners _ is);
     consume = oneshot_is settings.options.consume;
   }
 
@@ -200,6 +219,19 @@ ended_fair state.Play entries settings player ticket =
     (over_fair entries settings settings.options.single player (oneshot_is settings.options.single))
     (unchanged_fair player entries settings)
 
+passed_fair : (entries : List Entry) (settings : PlaySettings) (player : PlayerState) (uri : List ℕ) →
+    IsFair (passed entries settings player uri) entries settings
+passed_fair entries settings player uri =
+    let fair = over_fair entries settings singles.Off player (λ is. absurd (cc)) in
+    record { order = fair.order; removed = fair.removed; single = fair.single; consume = fair.consume }
+
+failed_fair : (entries : List Entry) (settings : PlaySettings) (player : PlayerState) (ticket : ℕ) (cause : BrokenCause)
+    (entry : Option Entry) → IsFair (failed_of entries settings player ticket cause entry) entries settings
+failed_fair entries settings player ticket cause None = unchanged_fair player entries settings
+failed_fair entries settings player ticket cause (Some entry) =
+    ticket_fair (passes entries settings player ticket cause) _ _ entries settings (passed_fair entries settings player entry.uri)
+    (unchanged_fair (broken player ticket cause entry.uri) entries settings)
+
 pub step_fair : (step : PlayerStep) (entries : List Entry) (settings : PlaySettings) (player : PlayerState) →
     FairIfMade (step_of step entries settings player) entries settings
 step_fair Resume entries settings player = resumed_fair player.state entries settings player
@@ -212,3 +244,5 @@ step_fair (Seek selector song milliseconds) entries settings player =
 step_fair Next entries settings player =
     next_fair player.state _ entries settings (over_fair entries settings singles.Off player (λ is. absurd (cc)))
 step_fair (Ended ticket) entries settings player = ended_fair player.state entries settings player ticket
+step_fair (Failed ticket cause) entries settings player =
+    failed_fair entries settings player ticket cause (current_entry entries player.current)

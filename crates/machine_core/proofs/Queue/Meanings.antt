@@ -12,6 +12,8 @@ use Rattle.std.specs.Option.{ok_or}
 use Rattle.std.specs.Result.{IsErrAnd}
 use Rattle.command_text.specs.AnswerSongs.{id_line}
 use Rattle.command_text.specs.declared.command.queue.QueueCommand.TheVariants as commands
+use Rattle.command_text.specs.Masks.{all_in_mask}
+use Rattle.command_text.specs.declared.tag_mask.TagMask.{TagMask}
 use Rattle.command_text.specs.declared.range.PositionRange.{PositionRange}
 use Rattle.command_text.specs.declared.refusal.CommandRefusal.{CommandRefusal}
 use Rattle.command_text.specs.declared.refusal.CommandRefusal.TheVariants.{NoSuchUri}
@@ -33,36 +35,37 @@ use Rattle.machine_core.specs.declared.span.Span.{Span}
 use Rattle.machine_core.specs.declared.work.Failure.{Failure}
 use Rattle.machine_core.specs.declared.work.Failure.TheVariants.{Refused}
 
-pub range_shown : (range : Option PositionRange) (m : MachineState) (span : Span) → span_or_all range (queue_length m) ≡ Ok span
-    → queue_meaning (commands.Info range) m ≡ says (flat_map (position_info m.saved) (positions_in span)) m
+pub range_shown : (mask : TagMask) (range : Option PositionRange) (m : MachineState) (span : Span) → span_or_all range (queue_length m)
+    ≡ Ok span
+    → queue_meaning mask (commands.Info range) m ≡ says (flat_map (position_info mask m.saved) (positions_in span)) m
 unfolding queue_meaning
-range_shown range m span is = rw is
+range_shown mask range m span is = rw is
 
-pub queue_shown : (m : MachineState) (end : ℕ) → end ≡ queue_length m
-    → queue_meaning (commands.InfoId None) m ≡ says (flat_map (position_info m.saved) (positions_in (whole end))) m
+pub queue_shown : (mask : TagMask) (m : MachineState) (end : ℕ) → end ≡ queue_length m
+    → queue_meaning mask (commands.InfoId None) m ≡ says (flat_map (position_info mask m.saved) (positions_in (whole end))) m
 unfolding queue_meaning
-queue_shown m end is = rw is
+queue_shown mask m end is = rw is
 
 pub files_shown : (m : MachineState) (end : ℕ) → end ≡ queue_length m
-    → queue_meaning commands.Files m ≡ says (flat_map (file_info m.saved.queue.entries) (positions_in (whole end))) m
+    → queue_meaning all_in_mask commands.Files m ≡ says (flat_map (file_info m.saved.queue.entries) (positions_in (whole end))) m
 unfolding queue_meaning
 files_shown m end is = rw is
 
-pub id_shown : (id : ℕ) (m : MachineState) (at : ℕ) → place_of_id id m ≡ Ok at
-    → queue_meaning (commands.InfoId (Some id)) m ≡ says (position_info m.saved at) m
+pub id_shown : (mask : TagMask) (id : ℕ) (m : MachineState) (at : ℕ) → place_of_id id m ≡ Ok at
+    → queue_meaning mask (commands.InfoId (Some id)) m ≡ says (position_info mask m.saved at) m
 unfolding queue_meaning
-id_shown id m at is = rw is
+id_shown mask id m at is = rw is
 
-pub changes_shown : (version : ℕ) (range : Option PositionRange) (m : MachineState) (span : Span)
+pub changes_shown : (mask : TagMask) (version : ℕ) (range : Option PositionRange) (m : MachineState) (span : Span)
     → span_or_all range (queue_length m) ≡ Ok span
-    → queue_meaning (commands.Changes version range) m
-    ≡ says (flat_map (position_info m.saved) (changed_in m.saved.queue version span)) m
+    → queue_meaning mask (commands.Changes version range) m
+    ≡ says (flat_map (position_info mask m.saved) (changed_in m.saved.queue version span)) m
 unfolding queue_meaning
-changes_shown version range m span is = rw is
+changes_shown mask version range m span is = rw is
 
 pub places_shown : (version : ℕ) (range : Option PositionRange) (m : MachineState) (span : Span)
     → span_or_all range (queue_length m) ≡ Ok span
-    → queue_meaning (commands.ChangesPositions version range) m
+    → queue_meaning all_in_mask (commands.ChangesPositions version range) m
     ≡ says (flat_map (place_info m.saved.queue.entries) (changed_in m.saved.queue version span)) m
 unfolding queue_meaning
 places_shown version range m span is = rw is
@@ -146,12 +149,12 @@ spans_done ranges count i spans h found =
 -- a song of this row is added there
 pub song_added : (uri : List ℕ) (to : Option Target) (m : MachineState) (row at : ℕ)
     → ok_or (number_at m.saved.songs uri) NoSuchUri ≡ Ok row → place_in to m ≡ Ok at
-    → queue_meaning (commands.AddId uri to) m ≡ edits (Queue (Add at (row ∷ []))) (id_line m.saved.queue.next_id) m
+    → queue_meaning all_in_mask (commands.AddId uri to) m ≡ edits (Queue (Add at (row ∷ []))) (id_line m.saved.queue.next_id) m
 unfolding queue_meaning
 song_added uri to m row at named place = rw (named, place)
 
 -- the songs of these rows are added
 pub songs_added : (uri : List ℕ) (to : Option Target) (m : MachineState) (rows : List ℕ)
-    → numbers_named m.saved.profile m.saved.songs uri ≡ Ok rows → queue_meaning (commands.Add uri to) m ≡ adds to rows [] m
+    → numbers_named m.saved.profile m.saved.songs uri ≡ Ok rows → queue_meaning all_in_mask (commands.Add uri to) m ≡ adds to rows [] m
 unfolding queue_meaning
 songs_added uri to m rows named = rw named

@@ -2,13 +2,12 @@
 use Rattle.std.proofs.Common.{◌≡◌, ℕ, Bool, true, false, cond, ◌+◌, List, [], ◌∷◌, ◌++◌, Option, Some, None, Ok, subst}
 use Rattle.std.specs.Prelude.{min}
 use Rattle.command_text.specs.declared.command.Command.{Command}
+use Rattle.command_text.specs.declared.tag_mask.TagMask.{TagMask}
 use Rattle.play_queue.specs.declared.entry.Entry.{Entry as QueueEntry}
 use Rattle.player_core.specs.Commands.{paused}
-use Rattle.player_core.specs.Order.{current_entry}
 use Rattle.player_core.specs.Player.{PlayerState}
-use Rattle.player_core.specs.Reports.{counts, failure}
+use Rattle.player_core.specs.Reports.{counts}
 use Rattle.player_core.specs.declared.failure.BrokenCause.{BrokenCause}
-use Rattle.player_core.specs.declared.playing.PlayState.TheVariants.{Stop}
 use Rattle.song_db.specs.Row.{Row}
 use Rattle.song_db.specs.declared.change.RowChange.{RowChange}
 use Rattle.state_codec.specs.Applied.{after_all}
@@ -17,14 +16,14 @@ use Rattle.machine_core.specs.Command.{meaning}
 use Rattle.machine_core.specs.Followed.{current_row, followed}
 use Rattle.machine_core.specs.Happening.{nothing_happens}
 use Rattle.machine_core.specs.Meaning.{Meaning, order_ops}
-use Rattle.machine_core.specs.Reports.{fed_in, broken_in, when_fed, when_ended, when_broken}
+use Rattle.machine_core.specs.Reports.{fed_in, when_fed, when_ended, when_broken}
 use Rattle.machine_core.specs.Scanning.{is_running, kept_changes, telling, finds, ends_scan, when_found, when_scanned}
 use Rattle.machine_core.specs.Sound.{IsSoundPlayer, IsSound}
 use Rattle.machine_core.specs.State.{MachineState, settings_of}
 use Rattle.machine_core.specs.Steps.{current_length, puts}
 use Rattle.machine_core.proofs.CommandForms.{KeptBy, OfForms, Turn, command_so, turned}
 use Rattle.machine_core.proofs.Sound.Forms.{batch_sound, edited_sound, moves_sound, puts_sound, steps_sound}
-use Rattle.machine_core.proofs.Sound.Playing.{previous_sound, sought_here_sound, halted_sound, ended_sound}
+use Rattle.machine_core.proofs.Sound.Playing.{previous_sound, sought_here_sound, halted_sound, ended_sound, failed_sound}
 use Rattle.machine_core.proofs.Sound.Steps.{sound_from, played_of}
 
 pub turn_sound : (turn : Turn) (m : MachineState) → KeptBy IsSound m (puts (turned turn m) m)
@@ -51,9 +50,10 @@ forms_sound = record {
   turns = turn_sound;
 }
 
-pub command_sound : (command : Command) (m : MachineState) (x : Meaning) → IsSound m → meaning command m ≡ Ok x → IsSound x.after
-command_sound command m x sound means =
-    subst (λ meant. KeptBy IsSound m meant) means (command_so (λ n y. IsSound n → IsSound y.after) forms_sound command m) sound
+pub command_sound : (mask : TagMask) (command : Command) (m : MachineState) (x : Meaning) → IsSound m → meaning mask command m ≡ Ok x
+    → IsSound x.after
+command_sound mask command m x sound means =
+    subst (λ meant. KeptBy IsSound m meant) means (command_so (λ n y. IsSound n → IsSound y.after) forms_sound mask command m) sound
 
 -- ---- events
 
@@ -75,22 +75,10 @@ pub when_ended_sound : (ticket : ℕ) (m : MachineState) → IsSound m → let h
 when_ended_sound ticket m sound =
     steps_sound _ m (ended_sound m.player.state m.saved.queue.entries (settings_of m.saved) m.player ticket sound)
 
-broken_sound : (entry : Option QueueEntry) (ticket : ℕ) (cause : BrokenCause) (entries : List QueueEntry) (random : Bool)
-    (player : PlayerState) → IsSoundPlayer entries random player → IsSoundPlayer entries random (broken_in entry ticket cause player)
-broken_sound None ticket cause entries random player sound = sound
-broken_sound (Some entry) ticket cause entries random player sound = of (counts player.state player.ticket ticket)
-  where
-    of : (b : Bool)
-        → IsSoundPlayer entries random (cond b (record player { state = Stop; error = Some (failure cause entry.uri) }) player)
-    of true = sound_from entries random (record player { state = Stop; error = Some (failure cause entry.uri) }) sound.current
-        (played_of entries random player sound)
-    of false = sound
-
 pub when_broken_sound : (ticket : ℕ) (cause : BrokenCause) (m : MachineState) → IsSound m → let h = when_broken ticket cause m in
     IsSound h.after
 when_broken_sound ticket cause m sound =
-    broken_sound (current_entry m.saved.queue.entries m.player.current) ticket cause m.saved.queue.entries m.saved.options.random m.player
-    sound
+    steps_sound _ m (failed_sound m.saved.queue.entries (settings_of m.saved) m.player ticket cause sound)
 
 finds_sound : (changes : List RowChange) (m : MachineState) → IsSound m → let h = finds changes m in IsSound h.after
 finds_sound [] m sound = sound
@@ -105,7 +93,8 @@ pub when_found_sound : (job : ℕ) (changes : List RowChange) (m : MachineState)
     IsSound h.after
 when_found_sound job changes m sound = of (is_running job m)
   where
-    of : (b : Bool) → let h = cond b (finds (telling m.saved.songs (kept_changes m.saved.profile changes)) m) (nothing_happens m) in IsSound h.after
+    of : (b : Bool) → let h = cond b (finds (telling m.saved.songs (kept_changes m.saved.profile changes)) m)
+        (nothing_happens m) in IsSound h.after
     of true = finds_sound (telling m.saved.songs (kept_changes m.saved.profile changes)) m sound
     of false = sound
 

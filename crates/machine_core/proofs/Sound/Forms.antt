@@ -35,11 +35,11 @@ use Rattle.machine_core.specs.Sound.{IsIn, AreOwn, IsSoundPlayer, IsSound}
 use Rattle.machine_core.specs.State.{MachineState, settings_of}
 use Rattle.machine_core.specs.Steps.{moves, puts, from_named, step_in, steps, removal_ops, single_ops, consume_ops}
 use Rattle.machine_core.specs.declared.steps.PlayerStep.{PlayerStep}
-use Rattle.machine_core.specs.declared.steps.PlayerStep.TheVariants.{Resume, Play as PlayNamed, Seek, Next, Ended}
+use Rattle.machine_core.specs.declared.steps.PlayerStep.TheVariants.{Resume, Play as PlayNamed, Seek, Next, Ended, Failed}
 use Rattle.machine_core.proofs.CommandForms.{KeptBy}
 use Rattle.machine_core.proofs.Sound.Edits.{id_test, op_has, ruled_has}
 use Rattle.machine_core.proofs.Sound.Leaving.{stays_deleted, stays_kept}
-use Rattle.machine_core.proofs.Sound.Playing.{StepSound, PlayerSound, left_of, over_sound, ended_sound, resumed_sound}
+use Rattle.machine_core.proofs.Sound.Playing.{StepSound, PlayerSound, left_of, over_sound, ended_sound, failed_sound, resumed_sound}
 use Rattle.machine_core.proofs.Sound.Playing.{played_from_sound, sought_sound, named_in}
 use Rattle.machine_core.proofs.Sound.Steps.{Within, sound_from, sound_within, played_of, followed_sound}
 
@@ -194,6 +194,7 @@ step_sound Next m sound =
     next_one_sound m m.player.state (over m.saved.queue.entries (settings_of m.saved) Off m.player)
     (over_sound m.saved.queue.entries (settings_of m.saved) Off m.player sound)
 step_sound (Ended ticket) m sound = ended_sound m.player.state m.saved.queue.entries (settings_of m.saved) m.player ticket sound
+step_sound (Failed ticket cause) m sound = failed_sound m.saved.queue.entries (settings_of m.saved) m.player ticket cause sound
 
 moved_sound : (made : Result Step PlayerError) (m : MachineState) → (IsSound m → MadeSound m made) → KeptBy IsSound m (moves made m)
 moved_sound (Ok step) m keeps = λ sound. steps_sound step m (keeps sound)

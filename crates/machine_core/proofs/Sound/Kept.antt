@@ -2,12 +2,11 @@
 use Rattle.std.proofs.Common.{◌≡◌, ℕ, ◌+◌, Bool, true, false, cond, List, [], ◌∷◌, ◌++◌, Option, Some, None, Ok, refl, sym, subst, arith}
 use Rattle.std.specs.Prelude.{min}
 use Rattle.command_text.specs.declared.command.Command.{Command}
+use Rattle.command_text.specs.declared.tag_mask.TagMask.{TagMask}
 use Rattle.play_queue.specs.Queue.{IsQueue}
 use Rattle.play_queue.specs.declared.entry.Entry.{Entry as QueueEntry}
-use Rattle.player_core.specs.Order.{current_entry}
-use Rattle.player_core.specs.Reports.{counts, failure}
+use Rattle.player_core.specs.Reports.{counts}
 use Rattle.player_core.specs.declared.failure.BrokenCause.{BrokenCause}
-use Rattle.player_core.specs.declared.playing.PlayState.TheVariants.{Stop}
 use Rattle.player_core.specs.declared.seek.SongLength.{SongLength}
 use Rattle.song_db.specs.Row.{Row}
 use Rattle.song_db.specs.Scan.{drops_of}
@@ -18,7 +17,7 @@ use Rattle.machine_core.specs.Command.{meaning}
 use Rattle.machine_core.specs.Followed.{current_row, followed}
 use Rattle.machine_core.specs.Happening.{nothing_happens}
 use Rattle.machine_core.specs.Meaning.{Meaning, order_ops}
-use Rattle.machine_core.specs.Reports.{broken_in, fed_in, when_broken, when_ended, when_fed}
+use Rattle.machine_core.specs.Reports.{fed_in, when_broken, when_ended, when_fed}
 use Rattle.machine_core.specs.Scanning.{ends_scan, finds, is_running, kept_changes, telling, when_found, when_scanned}
 use Rattle.machine_core.specs.Sound.{IsSoundMachine, IsWithinSong}
 use Rattle.machine_core.specs.State.{MachineState}
@@ -26,10 +25,10 @@ use Rattle.machine_core.specs.Steps.{moves, puts, step_in}
 use Rattle.machine_core.specs.declared.steps.PlayerStep.{PlayerStep}
 use Rattle.machine_core.specs.declared.steps.PlayerStep.TheVariants as steps
 use Rattle.machine_core.proofs.CommandForms.{KeptBy, KnowsLength, OfForms, Turn, command_so, turned}
-use Rattle.machine_core.proofs.Sound.Commands.{turn_sound, when_broken_sound, when_fed_sound, when_found_sound}
+use Rattle.machine_core.proofs.Sound.Commands.{turn_sound, when_fed_sound, when_found_sound}
 use Rattle.machine_core.proofs.Sound.Frame.{FrameWithin}
 use Rattle.machine_core.proofs.Sound.Queues.{batch_stays}
-use Rattle.machine_core.proofs.Sound.Within.{batch_framed, edited_holds, ended_holds, halted_within, next_holds, play_holds, previous_holds}
+use Rattle.machine_core.proofs.Sound.Within.{batch_framed, edited_holds, ended_holds, failed_holds, halted_within, next_holds, play_holds, previous_holds}
 use Rattle.machine_core.proofs.Sound.Within.{resume_holds, seek_current_holds, seek_holds}
 
 turn_holds : (turn : Turn) (m : MachineState) → KeptBy IsSoundMachine m (puts (turned turn m) m)
@@ -54,6 +53,7 @@ move_holds (steps.Seek selector song milliseconds) m knows =
     (seek_holds m selector milliseconds)
 move_holds steps.Next m knows = next_holds m
 move_holds (steps.Ended ticket) m knows = ended_holds m ticket
+move_holds (steps.Failed ticket cause) m knows = failed_holds m ticket cause
 
 forms_hold : OfForms (λ m x. IsSoundMachine m → IsSoundMachine x.after)
 forms_hold = record {
@@ -65,11 +65,11 @@ forms_hold = record {
   turns = turn_holds;
 }
 
-pub command_holds : (command : Command) (m : MachineState) (x : Meaning) → IsSoundMachine m → meaning command m ≡ Ok x
+pub command_holds : (mask : TagMask) (command : Command) (m : MachineState) (x : Meaning) → IsSoundMachine m → meaning mask command m ≡ Ok x
     → IsSoundMachine x.after
-command_holds command m x holds means =
+command_holds mask command m x holds means =
     subst (λ meant. KeptBy IsSoundMachine m meant) means
-    (command_so (λ n y. IsSoundMachine n → IsSoundMachine y.after) forms_hold command m) holds
+    (command_so (λ n y. IsSoundMachine n → IsSoundMachine y.after) forms_hold mask command m) holds
 
 -- ---- events
 
@@ -93,23 +93,9 @@ when_fed_holds ticket frames m holds = record {
 pub when_ended_holds : (ticket : ℕ) (m : MachineState) → IsSoundMachine m → let h = when_ended ticket m in IsSoundMachine h.after
 when_ended_holds ticket m holds = ended_holds m ticket holds
 
-broken_within : (m : MachineState) (entry : Option QueueEntry) (ticket : ℕ) (cause : BrokenCause) → IsWithinSong m
-    → IsWithinSong (record m { player = broken_in entry ticket cause m.player })
-broken_within m None ticket cause h = h
-broken_within m (Some entry) ticket cause h = of (counts m.player.state m.player.ticket ticket)
-  where
-    of : (b : Bool)
-        → IsWithinSong (record m { player = cond b (record m.player { state = Stop; error = Some (failure cause entry.uri) }) m.player })
-    of true = h
-    of false = h
-
 pub when_broken_holds : (ticket : ℕ) (cause : BrokenCause) (m : MachineState) → IsSoundMachine m → let h = when_broken ticket cause m in
     IsSoundMachine h.after
-when_broken_holds ticket cause m holds = record {
-  queue = holds.queue;
-  sound = when_broken_sound ticket cause m holds.sound;
-  frame = broken_within m (current_entry m.saved.queue.entries m.player.current) ticket cause holds.frame;
-}
+when_broken_holds ticket cause m holds = failed_holds m ticket cause holds
 
 finds_queue : (changes : List RowChange) (m : MachineState) → IsQueue m.saved.queue → let h = finds changes m in
     IsQueue h.after.saved.queue
@@ -138,11 +124,13 @@ when_found_holds job changes m holds = record {
   frame = frame_of (is_running job m);
 }
   where
-    queue_of : (b : Bool) → let h = cond b (finds (telling m.saved.songs (kept_changes m.saved.profile changes)) m) (nothing_happens m) in IsQueue h.after.saved.queue
+    queue_of : (b : Bool) → let h = cond b (finds (telling m.saved.songs (kept_changes m.saved.profile changes)) m)
+        (nothing_happens m) in IsQueue h.after.saved.queue
     queue_of true = finds_queue (telling m.saved.songs (kept_changes m.saved.profile changes)) m holds.queue
     queue_of false = holds.queue
 
-    frame_of : (b : Bool) → let h = cond b (finds (telling m.saved.songs (kept_changes m.saved.profile changes)) m) (nothing_happens m) in IsWithinSong h.after
+    frame_of : (b : Bool) → let h = cond b (finds (telling m.saved.songs (kept_changes m.saved.profile changes)) m)
+        (nothing_happens m) in IsWithinSong h.after
     frame_of true = finds_within (telling m.saved.songs (kept_changes m.saved.profile changes)) m holds.frame
     frame_of false = holds.frame
 

@@ -9,7 +9,14 @@ use Rattle.play_queue.specs.Queue.{ids_of}
 use Rattle.player_core.specs.Choice.{chosen, placed, this_round, nothing}
 use Rattle.player_core.specs.Commands.{id_at, named, begun, stepped, played_from, stepped_if_any, to_resume, resumed, halted}
 use Rattle.player_core.specs.Commands.{unless_stopped, last_or, in_front, again_from, gone_back, previous_one}
-use Rattle.player_core.specs.Ending.{is_on, consumed, after_single, followed_by, gone_on_or_stopped, over_at, over, ended_in}
+use Rattle.player_core.specs.Ending.{is_on, consumed, after_single, single_by, followed_by, gone_on_or_stopped, over_at, over, ended_in}
+use Rattle.player_core.specs.Ending.{held, held_if, waits}
+use Rattle.player_core.specs.Order.{current_entry}
+use Rattle.player_core.specs.Reports.{broken, counts, failed_of, failure, failures_in, passed, passes}
+use Rattle.player_core.specs.declared.failure.BrokenCause.{BrokenCause}
+use Rattle.player_core.specs.declared.failure.PlayFailure.TheVariants.{CannotPlay}
+use Rattle.player_core.specs.declared.manners.Manners.{Manners}
+use Rattle.player_core.specs.declared.manners.Manners.TheVariants.{Named, Mpd}
 use Rattle.player_core.specs.Player.{PlayerState, Step, unchanged, started, stopped, without, gone_on}
 use Rattle.player_core.specs.Player.{left_by, left_out}
 use Rattle.player_core.specs.Seek.{put_to, sought, sought_current, sought_here, frame_at, frame_from}
@@ -61,6 +68,20 @@ single_sound false false entries after random player place at within played =
     (subst (λ (o : Option ℕ). IfSome o (IsIn after)) (sym at.this)
     (within place.1 (subst (λ (l : List Entry). IsIn l place.1) (sym (staying-all 0 entries)) at.is_in))) played
 
+by_sound : (by : Manners) (consume again : Bool) (entries after : List Entry) (random : Bool) (player : PlayerState) (place : ℕ × ℕ)
+    (next : Choice) → IsAt entries player.current place → Within (all_staying (consumed consume place.0) [] entries) after
+    → ArePlayed after random (left_by (consumed consume place.0) [] 0 entries player.played) → IfSome next.id (IsIn after)
+    → IsSoundPlayer after random
+    (gone_on_or_stopped random (left_out (consumed consume place.0) [] entries player) (single_by by consume again place.1 next))
+by_sound Named consume again entries after random player place next at within played here =
+    single_sound consume again entries after random player place at within played
+by_sound Mpd true again entries after random player place next at within played here =
+    gone_on_sound after random (left_out (consumed true place.0) [] entries player) next here played
+by_sound Mpd false true entries after random player place next at within played here =
+    single_sound false true entries after random player place at within played
+by_sound Mpd false false entries after random player place next at within played here =
+    gone_on_sound after random (left_out (consumed false place.0) [] entries player) next here played
+
 next_sound : (single : Single) (entries after : List Entry) (settings : PlaySettings) (player : PlayerState) (place : ℕ × ℕ)
     → IsAt entries player.current place → Within (all_staying (consumed (is_on settings.options.consume) place.0) [] entries) after
     → ArePlayed entries settings.options.random player.played
@@ -76,11 +97,19 @@ next_sound Off entries after settings player place at within played =
     (chosen_in settings entries block [] player.played place.0 place.1))
     (left_played block [] entries after settings.options.random player.played within played)
 next_sound On entries after settings player place at within played =
-    single_sound (is_on settings.options.consume) settings.options.repeat entries after settings.options.random player place at within
-    (left_played (consumed (is_on settings.options.consume) place.0) [] entries after settings.options.random player.played within played)
+    let block = consumed (is_on settings.options.consume) place.0 in
+    let next = chosen settings entries block [] player.played place.0 place.1 in
+    by_sound settings.manners (is_on settings.options.consume) settings.options.repeat entries after settings.options.random player place
+    next at within (left_played block [] entries after settings.options.random player.played within played)
+    (some_weaker (IsIn (all_staying block [] entries)) (IsIn after) within next.id
+    (chosen_in settings entries block [] player.played place.0 place.1))
 next_sound Oneshot entries after settings player place at within played =
-    single_sound (is_on settings.options.consume) settings.options.repeat entries after settings.options.random player place at within
-    (left_played (consumed (is_on settings.options.consume) place.0) [] entries after settings.options.random player.played within played)
+    let block = consumed (is_on settings.options.consume) place.0 in
+    let next = chosen settings entries block [] player.played place.0 place.1 in
+    by_sound settings.manners (is_on settings.options.consume) settings.options.repeat entries after settings.options.random player place
+    next at within (left_played block [] entries after settings.options.random player.played within played)
+    (some_weaker (IsIn (all_staying block [] entries)) (IsIn after) within next.id
+    (chosen_in settings entries block [] player.played place.0 place.1))
 
 consumed_left : (consume : Bool) (at : ℕ) (entries after : List Entry)
     → Within (left_of (cond consume (Some at) None) entries) after → Within (all_staying (consumed consume at) [] entries) after
@@ -91,14 +120,21 @@ unchanged_sound : (entries : List Entry) (random : Bool) (player : PlayerState) 
     → StepSound entries random (unchanged player)
 unchanged_sound entries random player sound after within = sound_within entries after random player within sound
 
+held_sound : (b : Bool) (entries : List Entry) (random : Bool) (player : PlayerState) → IsSoundPlayer entries random player
+    → IsSoundPlayer entries random (held_if b player)
+held_sound false entries random player sound = sound
+held_sound true entries random player sound =
+    sound_from entries random (record player { state = held player.state }) sound.current (played_of entries random player sound)
+
 over_at_sound : (entries : List Entry) (settings : PlaySettings) (single : Single) (player : PlayerState) (place : Option (ℕ × ℕ))
     → placed entries player.current ≡ place → IsSoundPlayer entries settings.options.random player
     → StepSound entries settings.options.random (over_at entries settings single player place)
 over_at_sound entries settings single player None is sound = unchanged_sound entries settings.options.random player sound
 over_at_sound entries settings single player (Some place) is sound = λ after within.
-    next_sound single entries after settings player place (placed_at entries player.current place is)
+    held_sound (waits single settings.manners settings.options.repeat) after settings.options.random _
+    (next_sound single entries after settings player place (placed_at entries player.current place is)
     (consumed_left (is_on settings.options.consume) place.0 entries after within)
-    (played_of entries settings.options.random player sound)
+    (played_of entries settings.options.random player sound))
 
 pub over_sound : (entries : List Entry) (settings : PlaySettings) (single : Single) (player : PlayerState)
     → IsSoundPlayer entries settings.options.random player
@@ -119,6 +155,47 @@ ended_sound Play entries settings player ticket sound =
     one_of_sound entries settings.options.random (over entries settings settings.options.single player) (unchanged player)
     (player.ticket == ticket) (over_sound entries settings settings.options.single player sound)
     (unchanged_sound entries settings.options.random player sound)
+
+-- ---- a song that can't be played on
+
+broken_sound : (ticket : ℕ) (cause : BrokenCause) (uri : List ℕ) (entries : List Entry) (random : Bool) (player : PlayerState)
+    → IsSoundPlayer entries random player → IsSoundPlayer entries random (broken player ticket cause uri)
+broken_sound ticket cause uri entries random player sound = of (counts player.state player.ticket ticket)
+  where
+    of : (b : Bool) → IsSoundPlayer entries random (cond b (record player { state = Stop; error = Some (failure cause uri) }) player)
+    of true = sound_from entries random (record player { state = Stop; error = Some (failure cause uri) }) sound.current
+        (played_of entries random player sound)
+    of false = sound
+
+passed_sound : (entries : List Entry) (settings : PlaySettings) (player : PlayerState) (uri : List ℕ)
+    → IsSoundPlayer entries settings.options.random player
+    → StepSound entries settings.options.random (passed entries settings player uri)
+passed_sound entries settings player uri sound = λ after within.
+    let step = over entries settings Off player in
+    let kept = over_sound entries settings Off player sound after within in
+    sound_from after settings.options.random
+    (record step.player {
+      error = Some (CannotPlay uri);
+      failures = failures_in (is_on settings.options.consume) step.changes.order player.failures;
+    })
+    kept.current (played_of after settings.options.random step.player kept)
+
+failed_of_sound : (entries : List Entry) (settings : PlaySettings) (player : PlayerState) (ticket : ℕ) (cause : BrokenCause)
+    (entry : Option Entry) → IsSoundPlayer entries settings.options.random player
+    → StepSound entries settings.options.random (failed_of entries settings player ticket cause entry)
+failed_of_sound entries settings player ticket cause None sound = unchanged_sound entries settings.options.random player sound
+failed_of_sound entries settings player ticket cause (Some entry) sound =
+    one_of_sound entries settings.options.random (passed entries settings player entry.uri)
+    (unchanged (broken player ticket cause entry.uri)) (passes entries settings player ticket cause)
+    (passed_sound entries settings player entry.uri sound)
+    (unchanged_sound entries settings.options.random (broken player ticket cause entry.uri)
+    (broken_sound ticket cause entry.uri entries settings.options.random player sound))
+
+pub failed_sound : (entries : List Entry) (settings : PlaySettings) (player : PlayerState) (ticket : ℕ) (cause : BrokenCause)
+    → IsSoundPlayer entries settings.options.random player
+    → StepSound entries settings.options.random (failed_of entries settings player ticket cause (current_entry entries player.current))
+failed_sound entries settings player ticket cause sound =
+    failed_of_sound entries settings player ticket cause (current_entry entries player.current) sound
 
 -- ---- commands
 

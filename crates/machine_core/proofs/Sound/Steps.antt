@@ -14,9 +14,13 @@ use Rattle.std.specs.Str.{bytes_eq}
 use Rattle.play_queue.specs.declared.entry.Entry.{Entry}
 use Rattle.play_queue.specs.Entries.{Uris}
 use Rattle.player_core.specs.Choice.{chosen, placed}
-use Rattle.player_core.specs.Player.{PlayerState, Step, unchanged, started, stopped_without_song, without, gone_to, gone_on, in_round}
-use Rattle.player_core.specs.Player.{left_by, left_out}
-use Rattle.player_core.specs.Reports.{followed, followed_at, gone, takes_at}
+use Rattle.player_core.specs.Player.{PlayerState, Step, unchanged, started, stopped, stopped_without_song, without, gone_to, gone_on}
+use Rattle.player_core.specs.Player.{in_round, left_by, left_out}
+use Rattle.player_core.specs.Reports.{followed, followed_at, gone, gone_in_pause, gone_on_without, takes_at}
+use Rattle.player_core.specs.Commands.{stepped}
+use Rattle.player_core.specs.Ending.{repeats_one}
+use Rattle.player_core.specs.declared.manners.Manners.{Manners}
+use Rattle.player_core.specs.declared.manners.Manners.TheVariants.{Named, Mpd}
 use Rattle.player_core.specs.Staying.{takes, staying, all_staying}
 use Rattle.player_core.specs.declared.block.Block.{Block}
 use Rattle.player_core.specs.declared.choice.Choice.{Choice}
@@ -265,20 +269,45 @@ stays_song block dropped entries current place at stays =
     stays_test (λ entry. entry.id == place.1 && bytes_eq entry.uri (get_or entries place.0 no_entry).uri) block dropped entries current
     place at stays (at_song entries current place at)
 
+without_sound : (entries after : List Entry) (settings : PlaySettings) (block : Block) (dropped : Uris) (player : PlayerState)
+    (place : ℕ × ℕ) → Within (all_staying block dropped entries) after → ArePlayed entries settings.options.random player.played
+    → let step = gone_on_without entries settings block dropped player place in IsSoundPlayer after settings.options.random step.player
+without_sound entries after settings block dropped player place within played = of (repeats_one settings.manners settings.options)
+  where
+    choice : Choice
+    choice = chosen settings entries block dropped player.played place.0 place.1
+
+    of : (b : Bool) → let step : Step = cond b (unchanged (stopped_without_song (left_out block dropped entries player)))
+        (stepped settings.options.random (left_out block dropped entries player) choice) in
+        IsSoundPlayer after settings.options.random step.player
+    of true =
+        sound_from after settings.options.random (stopped_without_song (left_out block dropped entries player)) tt
+        (left_played block dropped entries after settings.options.random player.played within played)
+    of false =
+        gone_on_sound after settings.options.random (left_out block dropped entries player) choice
+        (some_weaker (IsIn (all_staying block dropped entries)) (IsIn after) within choice.id
+        (chosen_in settings entries block dropped player.played place.0 place.1))
+        (left_played block dropped entries after settings.options.random player.played within played)
+
+pause_sound : (by : Manners) (entries after : List Entry) (settings : PlaySettings) (block : Block) (dropped : Uris) (player : PlayerState)
+    (place : ℕ × ℕ) → Within (all_staying block dropped entries) after → ArePlayed entries settings.options.random player.played
+    → let step = gone_in_pause by entries settings block dropped player place in IsSoundPlayer after settings.options.random step.player
+pause_sound Named entries after settings block dropped player place within played =
+    sound_from after settings.options.random (stopped_without_song (left_out block dropped entries player)) tt
+    (left_played block dropped entries after settings.options.random player.played within played)
+pause_sound Mpd entries after settings block dropped player place within played =
+    let step = gone_on_without entries settings block dropped player place in
+    let sound = without_sound entries after settings block dropped player place within played in
+    sound_from after settings.options.random (stopped step.player) sound.current (played_of after settings.options.random step.player sound)
+
 gone_sound : (state : PlayState) (entries after : List Entry) (settings : PlaySettings) (block : Block) (dropped : Uris)
     (player : PlayerState) (place : ℕ × ℕ) → Within (all_staying block dropped entries) after
     → ArePlayed entries settings.options.random player.played
     → let step = gone state entries settings block dropped player place in IsSoundPlayer after settings.options.random step.player
 gone_sound Play entries after settings block dropped player place within played =
-    gone_on_sound after settings.options.random (left_out block dropped entries player)
-    (chosen settings entries block dropped player.played place.0 place.1)
-    (some_weaker (IsIn (all_staying block dropped entries)) (IsIn after) within
-    (chosen settings entries block dropped player.played place.0 place.1).id
-    (chosen_in settings entries block dropped player.played place.0 place.1))
-    (left_played block dropped entries after settings.options.random player.played within played)
+    without_sound entries after settings block dropped player place within played
 gone_sound Pause entries after settings block dropped player place within played =
-    sound_from after settings.options.random (stopped_without_song (left_out block dropped entries player)) tt
-    (left_played block dropped entries after settings.options.random player.played within played)
+    pause_sound settings.manners entries after settings block dropped player place within played
 gone_sound Stop entries after settings block dropped player place within played =
     sound_from after settings.options.random (stopped_without_song (left_out block dropped entries player)) tt
     (left_played block dropped entries after settings.options.random player.played within played)

@@ -10,13 +10,18 @@ use Rattle.player_core.specs.Choice.{chosen, placed}
 use Rattle.player_core.specs.Commands.{again_from, begun, gone_back, halted, in_front, named}
 use Rattle.player_core.specs.Commands.{played_from, previous_one, resumed, stepped, stepped_if_any}
 use Rattle.player_core.specs.Commands.{to_resume, unless_stopped}
-use Rattle.player_core.specs.Ending.{ended_in, followed_by, gone_on_or_stopped, over, over_at}
+use Rattle.player_core.specs.Ending.{ended_in, followed_by, gone_on_or_stopped, held_if, over, over_at, repeats_one, waits}
 use Rattle.player_core.specs.Order.{current_entry}
-use Rattle.player_core.specs.Player.{PlayerState, Step, gone_on, gone_to, in_round, left_out, started, unchanged, without}
-use Rattle.player_core.specs.Reports.{followed_at, gone, takes_at}
+use Rattle.player_core.specs.Player.{PlayerState, Step, gone_on, gone_to, in_round, left_out, started, stopped_without_song, unchanged}
+use Rattle.player_core.specs.Player.{without}
+use Rattle.player_core.specs.Reports.{broken, counts, failed_of, failure, followed_at, gone, gone_in_pause, gone_on_without, passed}
+use Rattle.player_core.specs.Reports.{passes, takes_at}
 use Rattle.player_core.specs.Seek.{frame_at, frame_from, put_to, sought, sought_current, sought_here}
 use Rattle.player_core.specs.declared.block.Block.{Block}
 use Rattle.player_core.specs.declared.choice.Choice.{Choice}
+use Rattle.player_core.specs.declared.failure.BrokenCause.{BrokenCause}
+use Rattle.player_core.specs.declared.manners.Manners.{Manners}
+use Rattle.player_core.specs.declared.manners.Manners.TheVariants.{Named, Mpd}
 use Rattle.player_core.specs.declared.options.Single.{Single}
 use Rattle.player_core.specs.declared.options.Single.TheVariants.{Off}
 use Rattle.player_core.specs.declared.playing.PlayState.{PlayState}
@@ -46,7 +51,7 @@ use Rattle.machine_core.specs.State.{MachineState, settings_of}
 use Rattle.machine_core.specs.Steps.{consume_ops, current_length, from_named, length_of, moves, named_entry, named_length}
 use Rattle.machine_core.specs.Steps.{puts, removal_ops, single_ops, step_in, steps}
 use Rattle.machine_core.specs.declared.steps.PlayerStep.{PlayerStep}
-use Rattle.machine_core.specs.declared.steps.PlayerStep.TheVariants.{Resume, Play as PlayNamed, Seek, Next, Ended}
+use Rattle.machine_core.specs.declared.steps.PlayerStep.TheVariants.{Resume, Play as PlayNamed, Seek, Next, Ended, Failed}
 use Rattle.machine_core.proofs.CommandForms.{KeptBy}
 use Rattle.machine_core.proofs.Sound.Edits.{op_has, ruled_has, song_test}
 use Rattle.machine_core.proofs.Sound.Forms.{edited_sound, moves_sound}
@@ -84,12 +89,28 @@ gone_on_none : (random : Bool) (player : PlayerState) (id : Option ℕ) → (gon
 gone_on_none random player None = refl
 gone_on_none random player (Some id) = refl
 
+without_none : (entries : List Entry) (settings : PlaySettings) (block : Block) (dropped : Uris) (player : PlayerState)
+    (place : ℕ × ℕ) → let step = gone_on_without entries settings block dropped player place in step.player.frame ≡ 0
+without_none entries settings block dropped player place = of (repeats_one settings.manners settings.options)
+  where
+    choice : Choice
+    choice = chosen settings entries block dropped player.played place.0 place.1
+
+    of : (b : Bool) → let step : Step = cond b (unchanged (stopped_without_song (left_out block dropped entries player)))
+        (stepped settings.options.random (left_out block dropped entries player) choice) in step.player.frame ≡ 0
+    of true = refl
+    of false = gone_on_none settings.options.random (in_round choice.order (left_out block dropped entries player)) choice.id
+
+pause_none : (by : Manners) (entries : List Entry) (settings : PlaySettings) (block : Block) (dropped : Uris) (player : PlayerState)
+    (place : ℕ × ℕ) → let step = gone_in_pause by entries settings block dropped player place in step.player.frame ≡ 0
+pause_none Named entries settings block dropped player place = refl
+pause_none Mpd entries settings block dropped player place = refl
+
 gone_none : (state : PlayState) (entries : List Entry) (settings : PlaySettings) (block : Block) (dropped : Uris) (player : PlayerState)
     (place : ℕ × ℕ) → let step = gone state entries settings block dropped player place in step.player.frame ≡ 0
-gone_none Play entries settings block dropped player place =
-    let choice = chosen settings entries block dropped player.played place.0 place.1 in
-    gone_on_none settings.options.random (in_round choice.order (left_out block dropped entries player)) choice.id
-gone_none Pause entries settings block dropped player place = refl
+gone_none Play entries settings block dropped player place = without_none entries settings block dropped player place
+gone_none Pause entries settings block dropped player place =
+    pause_none settings.manners entries settings block dropped player place
 gone_none Stop entries settings block dropped player place = refl
 
 -- a block leaves
@@ -262,13 +283,17 @@ next_none : (random : Bool) (player : PlayerState) (next : Option Choice) → (g
 next_none random player None = refl
 next_none random player (Some choice) = gone_on_none random (in_round choice.order player) choice.id
 
+held_none : (b : Bool) (player : PlayerState) → player.frame ≡ 0 → (held_if b player).frame ≡ 0
+held_none true player is = is
+held_none false player is = is
+
 over_within : (m : MachineState) (single : Single) (place : Option (ℕ × ℕ)) → IsWithinSong m
     → StepWithin m (over_at m.saved.queue.entries (settings_of m.saved) single m.player place)
 over_within m single None h = h
 over_within m single (Some place) h =
     begins_within m (over_at m.saved.queue.entries (settings_of m.saved) single m.player (Some place))
-    (next_none m.saved.options.random _
-    (followed_by (settings_of m.saved) single m.saved.queue.entries m.player.played place.0 place.1))
+    (held_none (waits single (settings_of m.saved).manners m.saved.options.repeat) _ (next_none m.saved.options.random _
+    (followed_by (settings_of m.saved) single m.saved.queue.entries m.player.played place.0 place.1)))
 
 ended_within : (m : MachineState) (state : PlayState) (ticket : ℕ) → IsWithinSong m
     → StepWithin m (ended_in state m.saved.queue.entries (settings_of m.saved) m.player ticket)
@@ -280,6 +305,25 @@ ended_within m Play ticket h = of (m.player.ticket == ticket)
         (unchanged m.player))
     of true = over_within m m.saved.options.single (placed m.saved.queue.entries m.player.current) h
     of false = h
+
+broken_within : (m : MachineState) (ticket : ℕ) (cause : BrokenCause) (uri : List ℕ) → IsWithinSong m
+    → StepWithin m (unchanged (broken m.player ticket cause uri))
+broken_within m ticket cause uri h = of (counts m.player.state m.player.ticket ticket)
+  where
+    of : (b : Bool)
+        → IsWithinSong (record m { player = cond b (record m.player { state = Stop; error = Some (failure cause uri) }) m.player })
+    of true = h
+    of false = h
+
+failed_within : (m : MachineState) (ticket : ℕ) (cause : BrokenCause) (entry : Option Entry) → IsWithinSong m
+    → StepWithin m (failed_of m.saved.queue.entries (settings_of m.saved) m.player ticket cause entry)
+failed_within m ticket cause None h = h
+failed_within m ticket cause (Some entry) h = of (passes m.saved.queue.entries (settings_of m.saved) m.player ticket cause)
+  where
+    of : (b : Bool) → StepWithin m (cond b (passed m.saved.queue.entries (settings_of m.saved) m.player entry.uri)
+        (unchanged (broken m.player ticket cause entry.uri)))
+    of true = over_within m Off (placed m.saved.queue.entries m.player.current) h
+    of false = broken_within m ticket cause entry.uri h
 
 resumed_within : (m : MachineState) (state : PlayState) → IsWithinSong m
     → StepWithin m (resumed state m.saved.queue.entries (settings_of m.saved) m.player)
@@ -386,6 +430,12 @@ pub ended_holds : (m : MachineState) (ticket : ℕ) → KeptBy IsSoundMachine m 
 ended_holds m ticket =
     moved_holds (step_in (Ended ticket) m) m (moves_sound (Ended ticket) m) (λ holds.
     ended_within m m.player.state ticket holds.frame)
+
+pub failed_holds : (m : MachineState) (ticket : ℕ) (cause : BrokenCause)
+    → KeptBy IsSoundMachine m (moves (step_in (Failed ticket cause) m) m)
+failed_holds m ticket cause =
+    moved_holds (step_in (Failed ticket cause) m) m (moves_sound (Failed ticket cause) m) (λ holds.
+    failed_within m ticket cause (current_entry m.saved.queue.entries m.player.current) holds.frame)
 
 -- ---- commands that change the player alone
 

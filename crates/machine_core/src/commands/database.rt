@@ -1,7 +1,7 @@
 // The commands of the database and its scans.
 ghost use Rattle.std.specs.Prelude.{◌≡◌, ◌++◌, [], true, false, not, flat_map, unwrap_or};
 ghost use Rattle.command_text.specs.Answer.{Adds};
-ghost use Rattle.command_text.specs.AnswerNames.{directory_line, listed_commands, tag_type_line};
+ghost use Rattle.command_text.specs.AnswerNames.{directory_line, listed_commands};
 ghost use Rattle.command_text.specs.AnswerSongs.{song_lines};
 ghost use Rattle.command_text.specs.AnswerStatus.{job_line};
 ghost use Rattle.profile.specs.Profile.{tags_of};
@@ -12,7 +12,7 @@ ghost use Rattle.song_db.specs.Row.{row_at};
 ghost use Rattle.song_db.specs.ToldWalk.{told_folders_in, told_songs_in};
 ghost use Rattle.song_files.specs.TagSet.{tags_in};
 ghost use Rattle.machine_core.specs.Database.{database_meaning, begins_job, folder_info, info_at, all_at, all_below, root_lists};
-ghost use Rattle.machine_core.specs.Database.{statistics};
+ghost use Rattle.machine_core.specs.Database.{shown_type, statistics};
 ghost use Rattle.machine_core.specs.Meaning.{answers, says};
 ghost use Rattle.machine_core.specs.Memory.{database_takes_memory};
 ghost use Rattle.machine_core.specs.Work.{HasRoom, Performs, command_room};
@@ -26,8 +26,8 @@ use crate::job::Job;
 use crate::machine::Machine;
 use crate::work::{Failure, Work};
 use command_text::{
-    CommandRefusal, DatabaseCommand, NoMemory, Text, write_commands, write_job, write_song,
-    write_statistics,
+    CommandRefusal, DatabaseCommand, NoMemory, TagMask, Text, write_commands, write_job,
+    write_song, write_statistics,
 };
 use profile::Profile;
 use song_db::{Place, SongRow, Uri};
@@ -62,26 +62,30 @@ impl Machine {
     pub(super) fn perform_database(
         &mut self,
         alloc: Global,
+        mask: TagMask,
         command: DatabaseCommand<'_>,
         work: &mut Work,
     ) -> Result<(), Failure>
         requires { HasRoom command_room work.old }
-        ensures performs { Performs (database_meaning command.entry self.old) self.old self.new work.old work.new result }
+        ensures performs { Performs (database_meaning mask command.entry self.old) self.old self.new work.old work.new result }
         ensures memory { result ≡ Err Failure.NoMemory → database_takes_memory command.entry self.old ≡ true }
     {
         match command {
+            DatabaseCommand::ChangeMask(_) => Ok(()),
             DatabaseCommand::Commands => self.list_commands(work),
             DatabaseCommand::ListAll(path) => {
                 self.list_all(path_or_root(&path), Detail::Paths, work)
             }
             DatabaseCommand::ListAllInfo(path) => {
-                self.list_all(path_or_root(&path), Detail::Songs, work)
+                self.list_all(path_or_root(&path), Detail::Songs(mask), work)
             }
-            DatabaseCommand::ListInfo(path) => self.list_info(alloc, path_or_root(&path), work),
+            DatabaseCommand::ListInfo(path) => {
+                self.list_info(alloc, mask, path_or_root(&path), work)
+            }
             DatabaseCommand::NotCommands => Ok(()),
             DatabaseCommand::Stats => self.put_statistics(alloc, work),
             DatabaseCommand::Rescan(place) => self.begin_job(place, true, work),
-            DatabaseCommand::TagTypes => self.list_tag_types(work),
+            DatabaseCommand::TagTypes => self.list_tag_types(mask, work),
             DatabaseCommand::Update(place) => self.begin_job(place, false, work),
         }
     }
@@ -96,12 +100,12 @@ impl Machine {
     }
 
     // `tagtypes`
-    fn list_tag_types(&self, work: &mut Work) -> Result<(), Failure>
-        ensures { Performs (says (flat_map tag_type_line (tags_in (tags_of self.now.saved.profile))) self.now)
+    fn list_tag_types(&self, mask: TagMask, work: &mut Work) -> Result<(), Failure>
+        ensures { Performs (says (flat_map (shown_type mask) (tags_in (tags_of self.now.saved.profile))) self.now)
             self.now self.now work.old work.new result }
     {
         let mark = work.text.len();
-        let written = write_tag_types(&mut work.text, self.saved.profile().tags());
+        let written = write_tag_types(&mut work.text, mask, self.saved.profile().tags());
         work.keep(mark, written)
     }
 
@@ -206,39 +210,56 @@ impl Machine {
     }
 
     // `lsinfo`: the song of a path, or else what stands right in the folder of that path.
-    fn list_info(&self, alloc: Global, path: &str, work: &mut Work) -> Result<(), Failure>
-        ensures { Performs (answers (info_at self.now.saved path.now (row_at self.now.saved.songs path.now)) self.now)
+    fn list_info(
+        &self,
+        alloc: Global,
+        mask: TagMask,
+        path: &str,
+        work: &mut Work,
+    ) -> Result<(), Failure>
+        ensures { Performs (answers (info_at mask self.now.saved path.now (row_at self.now.saved.songs path.now)) self.now)
             self.now self.now work.old work.new result }
     {
         match self.saved.songs().get(path) {
             Ok(row) => {
                 let mark = work.text.len();
-                let written = write_song(&mut work.text, row);
+                let written = write_song(&mut work.text, mask, row);
                 work.keep(mark, written)
             }
-            Err(_) => self.list_folder(alloc, Place::read(path), work),
+            Err(_) => self.list_folder(alloc, mask, Place::read(path), work),
         }
     }
 
     // What stands right in a folder.
-    fn list_folder(&self, alloc: Global, place: Place<'_>, work: &mut Work) -> Result<(), Failure>
-        ensures { Performs (answers (folder_info self.now.saved place.entry) self.now) self.now self.now work.old work.new result }
+    fn list_folder(
+        &self,
+        alloc: Global,
+        mask: TagMask,
+        place: Place<'_>,
+        work: &mut Work,
+    ) -> Result<(), Failure>
+        ensures { Performs (answers (folder_info mask self.now.saved place.entry) self.now) self.now self.now work.old work.new result }
     {
         match self.saved.profile() {
-            Profile::Named => self.list_folder_by_uri(alloc, place, work),
-            Profile::Wide => self.list_folder_told(place, work),
+            Profile::Named => self.list_folder_by_uri(alloc, mask, place, work),
+            Profile::Wide => self.list_folder_told(mask, place, work),
         }
     }
 
-    fn list_folder_told(&self, place: Place<'_>, work: &mut Work) -> Result<(), Failure>
+    fn list_folder_told(
+        &self,
+        mask: TagMask,
+        place: Place<'_>,
+        work: &mut Work,
+    ) -> Result<(), Failure>
         requires { self.now.saved.profile ≡ Wide }
-        ensures { Performs (answers (folder_info self.now.saved place.entry) self.now) self.now self.now work.old work.new result }
+        ensures { Performs (answers (folder_info mask self.now.saved place.entry) self.now) self.now self.now work.old work.new result }
     {
         let Ok(rows) = self.saved.songs().told_under(place) else {
             return Err(Failure::Refused(CommandRefusal::NoSuchUri));
         };
         let mark = work.text.len();
-        let written = self.put_told(&mut work.text, place, rows);
+        let written = self.put_told(&mut work.text, mask, place, rows);
         work.keep(mark, written)
     }
 
@@ -246,24 +267,26 @@ impl Machine {
     fn put_told(
         &self,
         out: &mut Vec<u8>,
+        mask: TagMask,
         place: Place<'_>,
         rows: &[SongRow],
     ) -> Result<(), NoMemory>
-        ensures { Adds ((flat_map song_lines (told_songs_in place.entry rows.now) ++ flat_map directory_line (told_folders_in
+        ensures { Adds ((flat_map (song_lines mask) (told_songs_in place.entry rows.now) ++ flat_map directory_line (told_folders_in
             place.entry rows.now)) ++ root_lists self.now.saved.profile self.now.saved.lists place.entry) result out.old out.new }
     {
-        write_told_content(out, rows, place)?;
+        write_told_content(out, mask, rows, place)?;
         write_root_lists(out, self.saved.profile(), self.saved.lists(), place)
     }
 
     fn list_folder_by_uri(
         &self,
         alloc: Global,
+        mask: TagMask,
         place: Place<'_>,
         work: &mut Work,
     ) -> Result<(), Failure>
         requires { self.now.saved.profile ≡ Named }
-        ensures { Performs (answers (folder_info self.now.saved place.entry) self.now) self.now self.now work.old work.new result }
+        ensures { Performs (answers (folder_info mask self.now.saved place.entry) self.now) self.now self.now work.old work.new result }
     {
         if !self.has_folder(place) {
             return Err(Failure::Refused(CommandRefusal::NoSuchUri));
@@ -276,7 +299,7 @@ impl Machine {
             return Err(Failure::NoMemory);
         };
         let mark = work.text.len();
-        let written = write_content(&mut work.text, &folders, &songs);
+        let written = write_content(&mut work.text, mask, &folders, &songs);
         work.keep(mark, written)
     }
 }

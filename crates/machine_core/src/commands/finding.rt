@@ -1,8 +1,9 @@
 // The commands that find songs by a filter.
 ghost use Rattle.std.specs.Prelude.{◌≡◌, ◌≤◌, Some, None, length, map, IfOk};
 ghost use Rattle.std.specs.Option.{option_copied};
-ghost use Rattle.command_text.specs.declared.command.finding.FindingCommand.TheVariants.{Add, AddToPlaylist, Count, Find, InQueue};
-ghost use Rattle.command_text.specs.declared.command.finding.FindingCommand.TheVariants.{ListFiles, ListTag};
+ghost use Rattle.command_text.specs.Masks.{all_in_mask};
+ghost use Rattle.command_text.specs.declared.command.finding.FindingCommand.TheVariants.{Add, AddToPlaylist, Count, CountGroups, Find};
+ghost use Rattle.command_text.specs.declared.command.finding.FindingCommand.TheVariants.{InQueue, ListFiles, ListGroups, ListTag};
 ghost use Rattle.filter_expr.specs.declared.case.Case.TheVariants.{Exact, Folded};
 ghost use Rattle.profile.specs.declared.profile.Profile.TheVariants.{Named};
 ghost use Rattle.song_db.specs.Duration.{total_of};
@@ -16,9 +17,10 @@ use crate::answer::write_songs;
 use crate::machine::Machine;
 use crate::named::row_numbers;
 use crate::work::{Failure, Work};
-use command_text::{FindingCommand, NoMemory, Search, Window, write_counts};
+use command_text::{FindingCommand, NoMemory, Search, TagList, TagMask, Window, write_counts};
 use filter_expr::{Case, Filter, window};
 use gathering::{all_numbers, matching_rows, numbers_by_uri, numbers_of, ordered_rows, rows_told};
+use groups::{Within, chosen_numbers, write_group_counts, write_groups};
 use play_queue::Target;
 use profile::Profile;
 use song_db::{SongDb, SongRow};
@@ -29,6 +31,7 @@ use values::chosen_values;
 use writing::{write_by_uri, write_chosen_files, write_entries, write_values};
 
 mod gathering;
+mod groups;
 mod part;
 mod values;
 mod writing;
@@ -59,24 +62,27 @@ impl Machine {
     pub(super) fn perform_finding(
         &mut self,
         alloc: Global,
+        mask: TagMask,
         command: FindingCommand<'_>,
         work: &mut Work,
     ) -> Result<(), Failure>
         requires { HasRoom command_room work.old }
-        ensures { Performs (finding_meaning command.entry self.old) self.old self.new work.old work.new result }
+        ensures { Performs (finding_meaning mask command.entry self.old) self.old self.new work.old work.new result }
     {
-        self.perform_command(alloc, &command, work)
+        self.perform_command(alloc, mask, &command, work)
     }
 
     // By reference, so that what a command owns is let go in one place.
+    #[tactic(auto, unfolding(crate::specs::Finding::finding_meaning))]
     fn perform_command(
         &mut self,
         alloc: Global,
+        mask: TagMask,
         command: &FindingCommand<'_>,
         work: &mut Work,
     ) -> Result<(), Failure>
         requires { HasRoom command_room work.old }
-        ensures { Performs (finding_meaning command.now self.old) self.old self.new work.old work.new result }
+        ensures { Performs (finding_meaning mask command.now self.old) self.old self.new work.old work.new result }
     {
         match command {
             FindingCommand::Add(search, to) => self.add_found(alloc, search, *to, work),
@@ -84,9 +90,17 @@ impl Machine {
                 self.add_to_playlist(alloc, name.as_str(), filter, work)
             }
             FindingCommand::Count(filter) => self.count(alloc, filter, work),
-            FindingCommand::Find(search) => self.find(alloc, search, work),
-            FindingCommand::InQueue(case, filter) => self.find_entries(alloc, *case, filter, work),
+            FindingCommand::CountGroups(tag, filter) => {
+                self.count_groups(alloc, *tag, filter.as_ref(), work)
+            }
+            FindingCommand::Find(search) => self.find(alloc, mask, search, work),
+            FindingCommand::InQueue(case, filter) => {
+                self.find_entries(alloc, mask, *case, filter, work)
+            }
             FindingCommand::ListFiles(filter) => self.list_files(alloc, filter.as_ref(), work),
+            FindingCommand::ListGroups(tags, filter) => {
+                self.list_groups(alloc, tags, filter.as_ref(), work)
+            }
             FindingCommand::ListTag(tag, filter) => {
                 self.list_values(alloc, *tag, filter.as_ref(), work)
             }
@@ -95,7 +109,7 @@ impl Machine {
 
     // `count`
     fn count(&self, alloc: Global, filter: &Filter, work: &mut Work) -> Result<(), Failure>
-        ensures { Performs (finding_meaning (Count filter.now) self.now) self.now self.now work.old work.new result }
+        ensures { Performs (finding_meaning all_in_mask (Count filter.now) self.now) self.now self.now work.old work.new result }
     {
         let database = self.saved.songs();
         let (songs, milliseconds) = count_matching(alloc, database, filter)?;
@@ -105,33 +119,51 @@ impl Machine {
     }
 
     // `find`, `search`
-    fn find(&self, alloc: Global, search: &Search, work: &mut Work) -> Result<(), Failure>
-        ensures { Performs (finding_meaning (Find search.now) self.now) self.now self.now work.old work.new result }
+    fn find(
+        &self,
+        alloc: Global,
+        mask: TagMask,
+        search: &Search,
+        work: &mut Work,
+    ) -> Result<(), Failure>
+        ensures { Performs (finding_meaning mask (Find search.now) self.now) self.now self.now work.old work.new result }
     {
         match (self.saved.profile(), search.sort) {
-            (Profile::Named, None) => self.find_by_uri(alloc, search, work),
-            _ => self.find_ordered(alloc, search, work),
+            (Profile::Named, None) => self.find_by_uri(alloc, mask, search, work),
+            _ => self.find_ordered(alloc, mask, search, work),
         }
     }
 
-    fn find_ordered(&self, alloc: Global, search: &Search, work: &mut Work) -> Result<(), Failure>
-        ensures { Performs (finding_meaning (Find search.now) self.now) self.now self.now work.old work.new result }
+    fn find_ordered(
+        &self,
+        alloc: Global,
+        mask: TagMask,
+        search: &Search,
+        work: &mut Work,
+    ) -> Result<(), Failure>
+        ensures { Performs (finding_meaning mask (Find search.now) self.now) self.now self.now work.old work.new result }
     {
         let songs = self.saved.songs();
         let ordered = ordered_rows(alloc, self.saved.profile(), songs, search)?;
         let mark = work.text.len();
-        let written = write_songs(&mut work.text, windowed(&ordered, search.window));
+        let written = write_songs(&mut work.text, mask, windowed(&ordered, search.window));
         work.keep(mark, written)
     }
 
-    fn find_by_uri(&self, alloc: Global, search: &Search, work: &mut Work) -> Result<(), Failure>
+    fn find_by_uri(
+        &self,
+        alloc: Global,
+        mask: TagMask,
+        search: &Search,
+        work: &mut Work,
+    ) -> Result<(), Failure>
         requires named { self.now.saved.profile ≡ Named }
         requires unsorted { search.now.sort ≡ None }
-        ensures { Performs (finding_meaning (Find search.now) self.now) self.now self.now work.old work.new result }
+        ensures { Performs (finding_meaning mask (Find search.now) self.now) self.now self.now work.old work.new result }
     {
         let songs = self.saved.songs();
         let mark = work.text.len();
-        let written = write_by_uri(&mut work.text, alloc, songs, search);
+        let written = write_by_uri(&mut work.text, alloc, mask, songs, search);
         work.keep(mark, written)
     }
 
@@ -144,7 +176,7 @@ impl Machine {
         work: &mut Work,
     ) -> Result<(), Failure>
         requires { HasRoom command_room work.old }
-        ensures { Performs (finding_meaning (Add search.now to) self.old) self.old self.new work.old work.new result }
+        ensures { Performs (finding_meaning all_in_mask (Add search.now to) self.old) self.old self.new work.old work.new result }
     {
         let rows = found_numbers(alloc, self.saved.profile(), self.saved.songs(), search)?;
         self.add_rows(alloc, to, rows, work)
@@ -159,7 +191,8 @@ impl Machine {
         work: &mut Work,
     ) -> Result<(), Failure>
         requires { HasRoom command_room work.old }
-        ensures { Performs (finding_meaning (AddToPlaylist name.now filter.now) self.old) self.old self.new work.old work.new result }
+        ensures { Performs (finding_meaning all_in_mask (AddToPlaylist name.now filter.now) self.old) self.old self.new work.old work.new
+            result }
     {
         let name = list_name(alloc, name)?;
         let rows = folded_numbers(alloc, self.saved.profile(), self.saved.songs(), filter)?;
@@ -170,16 +203,17 @@ impl Machine {
     fn find_entries(
         &self,
         alloc: Global,
+        mask: TagMask,
         case: Case,
         filter: &Filter,
         work: &mut Work,
     ) -> Result<(), Failure>
-        ensures { Performs (finding_meaning (InQueue case filter.now) self.now) self.now self.now work.old work.new result }
+        ensures { Performs (finding_meaning mask (InQueue case filter.now) self.now) self.now self.now work.old work.new result }
     {
         let songs = self.saved.songs();
         let entries = self.saved.queue().entries();
         let mark = work.text.len();
-        let written = write_entries(&mut work.text, alloc, songs, entries, case, filter);
+        let written = write_entries(&mut work.text, alloc, mask, songs, entries, case, filter);
         work.keep(mark, written)
     }
 
@@ -190,7 +224,7 @@ impl Machine {
         filter: Option<&Filter>,
         work: &mut Work,
     ) -> Result<(), Failure>
-        ensures { Performs (finding_meaning (ListFiles (option_copied filter.entry)) self.now) self.now self.now
+        ensures { Performs (finding_meaning all_in_mask (ListFiles (option_copied filter.entry)) self.now) self.now self.now
             work.old work.new result }
     {
         let songs = self.saved.songs();
@@ -207,12 +241,56 @@ impl Machine {
         filter: Option<&Filter>,
         work: &mut Work,
     ) -> Result<(), Failure>
-        ensures { Performs (finding_meaning (ListTag tag (option_copied filter.entry)) self.now) self.now self.now
+        ensures { Performs (finding_meaning all_in_mask (ListTag tag (option_copied filter.entry)) self.now) self.now self.now
             work.old work.new result }
     {
         let values = chosen_values(alloc, self.saved.profile(), self.saved.songs(), tag, filter)?;
         let mark = work.text.len();
         let written = write_values(&mut work.text, tag, &values);
+        work.keep(mark, written)
+    }
+
+    // `list` with `group`: the values of tags, each within those of the tag before it.
+    fn list_groups(
+        &self,
+        alloc: Global,
+        tags: &TagList,
+        filter: Option<&Filter>,
+        work: &mut Work,
+    ) -> Result<(), Failure>
+        ensures { Performs (finding_meaning all_in_mask (ListGroups tags.now (option_copied filter.entry)) self.now) self.now self.now
+            work.old work.new result }
+    {
+        let songs = self.saved.songs();
+        let chosen = chosen_numbers(alloc, songs, filter)?;
+        let within = Within {
+            profile: self.saved.profile(),
+            rows: songs.rows(),
+        };
+        let mark = work.text.len();
+        let written = write_groups(&mut work.text, alloc, within, tags.as_slice(), &chosen);
+        work.keep(mark, written)
+    }
+
+    // `count` with `group`: each value of a tag, with the songs that tell it.
+    fn count_groups(
+        &self,
+        alloc: Global,
+        tag: Tag,
+        filter: Option<&Filter>,
+        work: &mut Work,
+    ) -> Result<(), Failure>
+        ensures { Performs (finding_meaning all_in_mask (CountGroups tag (option_copied filter.entry)) self.now) self.now self.now
+            work.old work.new result }
+    {
+        let songs = self.saved.songs();
+        let chosen = chosen_numbers(alloc, songs, filter)?;
+        let within = Within {
+            profile: self.saved.profile(),
+            rows: songs.rows(),
+        };
+        let mark = work.text.len();
+        let written = write_group_counts(&mut work.text, alloc, within, tag, &chosen);
         work.keep(mark, written)
     }
 }

@@ -1,5 +1,6 @@
 // The commands of the stored playlists.
 ghost use Rattle.std.specs.Prelude.{◌≡◌, ◌≤◌, length, Ok, IfOk, IfErr};
+ghost use Rattle.command_text.specs.Masks.{all_in_mask};
 ghost use Rattle.command_text.specs.declared.command.lists.ListsCommand.TheVariants as commands;
 ghost use Rattle.stored_lists.specs.Limits.{MAX_ENTRIES};
 ghost use Rattle.machine_core.specs.Lists.{lists_meaning, list_name, songs_named, rows_to_load};
@@ -12,7 +13,7 @@ use crate::machine::Machine;
 use crate::named::numbers_of;
 use crate::span::{span_in, span_or_all};
 use crate::work::{Failure, Work};
-use command_text::{CommandRefusal, ListsCommand, PositionRange};
+use command_text::{CommandRefusal, ListsCommand, PositionRange, TagMask};
 use play_queue::Target;
 use song_db::SongDb;
 use state_codec::{ListOp, Op, OpRefusal, RowNumbers, Text};
@@ -24,11 +25,12 @@ impl Machine {
     pub(super) fn perform_lists(
         &mut self,
         alloc: Global,
+        mask: TagMask,
         command: ListsCommand<'_>,
         work: &mut Work,
     ) -> Result<(), Failure>
         requires { HasRoom command_room work.old }
-        ensures { Performs (lists_meaning command.entry self.old) self.old self.new work.old work.new result }
+        ensures { Performs (lists_meaning mask command.entry self.old) self.old self.new work.old work.new result }
     {
         match command {
             ListsCommand::Add(name, path) => {
@@ -51,7 +53,7 @@ impl Machine {
             }
             ListsCommand::Save(name, mode) => self.save_queue(alloc, name.as_str(), mode, work),
             ListsCommand::Songs(name) => self.list_uris(name.as_str(), work),
-            ListsCommand::SongsInfo(name) => self.list_songs(name.as_str(), work),
+            ListsCommand::SongsInfo(name) => self.list_songs(mask, name.as_str(), work),
         }
     }
 
@@ -64,7 +66,8 @@ impl Machine {
         work: &mut Work,
     ) -> Result<(), Failure>
         requires { HasRoom command_room work.old }
-        ensures { Performs (lists_meaning (commands.Add name.now path.now) self.old) self.old self.new work.old work.new result }
+        ensures { Performs (lists_meaning all_in_mask (commands.Add name.now path.now) self.old) self.old self.new work.old work.new
+            result }
     {
         let name = list_name(alloc, name)?;
         let rows = self.rows_named(alloc, path)?;
@@ -73,7 +76,7 @@ impl Machine {
 
     fn clear_list(&mut self, alloc: Global, name: &str, work: &mut Work) -> Result<(), Failure>
         requires { HasRoom command_room work.old }
-        ensures { Performs (lists_meaning (commands.Clear name.now) self.old) self.old self.new work.old work.new result }
+        ensures { Performs (lists_meaning all_in_mask (commands.Clear name.now) self.old) self.old self.new work.old work.new result }
     {
         let name = list_name(alloc, name)?;
         self.edit(alloc, Op::List(ListOp::Clear { name }), work)
@@ -87,7 +90,8 @@ impl Machine {
         work: &mut Work,
     ) -> Result<(), Failure>
         requires { HasRoom command_room work.old }
-        ensures { Performs (lists_meaning (commands.Delete name.now range) self.old) self.old self.new work.old work.new result }
+        ensures { Performs (lists_meaning all_in_mask (commands.Delete name.now range) self.old) self.old self.new work.old work.new
+            result }
     {
         let songs = songs_named(self.saved.lists(), name)?;
         let span = span_in(range, songs.len() as u32)?;
@@ -110,7 +114,8 @@ impl Machine {
         work: &mut Work,
     ) -> Result<(), Failure>
         requires { HasRoom command_room work.old }
-        ensures { Performs (lists_meaning (commands.Load name.now range to) self.old) self.old self.new work.old work.new result }
+        ensures { Performs (lists_meaning all_in_mask (commands.Load name.now range to) self.old) self.old self.new work.old work.new
+            result }
     {
         let current = self.current_position();
         let songs = songs_named(self.saved.lists(), name)?;
@@ -127,7 +132,8 @@ impl Machine {
         work: &mut Work,
     ) -> Result<(), Failure>
         requires { HasRoom command_room work.old }
-        ensures { Performs (lists_meaning (commands.Move name.now from to) self.old) self.old self.new work.old work.new result }
+        ensures { Performs (lists_meaning all_in_mask (commands.Move name.now from to) self.old) self.old self.new work.old work.new
+            result }
     {
         let name = list_name(alloc, name)?;
         self.edit(alloc, Op::List(ListOp::Move { name, from, to }), work)
@@ -135,7 +141,7 @@ impl Machine {
 
     fn remove_list(&mut self, alloc: Global, name: &str, work: &mut Work) -> Result<(), Failure>
         requires { HasRoom command_room work.old }
-        ensures { Performs (lists_meaning (commands.Remove name.now) self.old) self.old self.new work.old work.new result }
+        ensures { Performs (lists_meaning all_in_mask (commands.Remove name.now) self.old) self.old self.new work.old work.new result }
     {
         let name = list_name(alloc, name)?;
         self.edit(alloc, Op::List(ListOp::Drop { name }), work)
@@ -149,7 +155,8 @@ impl Machine {
         work: &mut Work,
     ) -> Result<(), Failure>
         requires { HasRoom command_room work.old }
-        ensures { Performs (lists_meaning (commands.Rename from.now to.now) self.old) self.old self.new work.old work.new result }
+        ensures { Performs (lists_meaning all_in_mask (commands.Rename from.now to.now) self.old) self.old self.new work.old work.new
+            result }
     {
         let from = list_name(alloc, from)?;
         let to = list_name(alloc, to)?;
@@ -158,7 +165,7 @@ impl Machine {
 
     // `listplaylists`: the names.
     fn list_names(&self, work: &mut Work) -> Result<(), Failure>
-        ensures { Performs (lists_meaning commands.Names self.now) self.now self.now work.old work.new result }
+        ensures { Performs (lists_meaning all_in_mask commands.Names self.now) self.now self.now work.old work.new result }
     {
         let mark = work.text.len();
         let written = write_list_names(&mut work.text, self.saved.profile(), self.saved.lists());
@@ -167,7 +174,7 @@ impl Machine {
 
     // `listplaylist`: the URIs.
     fn list_uris(&self, name: &str, work: &mut Work) -> Result<(), Failure>
-        ensures { Performs (lists_meaning (commands.Songs name.now) self.now) self.now self.now work.old work.new result }
+        ensures { Performs (lists_meaning all_in_mask (commands.Songs name.now) self.now) self.now self.now work.old work.new result }
     {
         let songs = songs_named(self.saved.lists(), name)?;
         let mark = work.text.len();
@@ -176,12 +183,12 @@ impl Machine {
     }
 
     // `listplaylistinfo`: the lines of each song.
-    fn list_songs(&self, name: &str, work: &mut Work) -> Result<(), Failure>
-        ensures { Performs (lists_meaning (commands.SongsInfo name.now) self.now) self.now self.now work.old work.new result }
+    fn list_songs(&self, mask: TagMask, name: &str, work: &mut Work) -> Result<(), Failure>
+        ensures { Performs (lists_meaning mask (commands.SongsInfo name.now) self.now) self.now self.now work.old work.new result }
     {
         let songs = songs_named(self.saved.lists(), name)?;
         let mark = work.text.len();
-        let written = write_song_infos(&mut work.text, self.saved.songs(), songs.as_slice());
+        let written = write_song_infos(&mut work.text, mask, self.saved.songs(), songs.as_slice());
         work.keep(mark, written)
     }
 }

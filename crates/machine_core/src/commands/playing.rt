@@ -17,7 +17,7 @@ use crate::machine::Machine;
 use crate::steps::PlayerStep;
 use crate::told::failure_of;
 use crate::work::{Failure, Work};
-use command_text::{NoMemory, PlayingCommand};
+use command_text::{NoMemory, PlayingCommand, TagMask};
 use player_core::{SeekTime, Selector, Shown};
 use std::alloc::Global;
 
@@ -26,16 +26,17 @@ impl Machine {
     pub(super) fn perform_playing(
         &mut self,
         alloc: Global,
+        mask: TagMask,
         command: PlayingCommand,
         work: &mut Work,
     ) -> Result<(), Failure>
         requires { HasRoom command_room work.old }
-        ensures performs { Performs (playing_meaning command self.old) self.old self.new work.old work.new result }
+        ensures performs { Performs (playing_meaning mask command self.old) self.old self.new work.old work.new result }
         ensures memory { result ≡ Err Failure.NoMemory → playing_takes_memory command ≡ true }
     {
         match command {
             PlayingCommand::ClearError => self.clear_error(),
-            PlayingCommand::CurrentSong => return self.write_current_song(work),
+            PlayingCommand::CurrentSong => return self.write_current_song(mask, work),
             PlayingCommand::Next => return self.make_step(alloc, PlayerStep::Next, work),
             PlayingCommand::Pause(switch) => self.pause(switch),
             PlayingCommand::Play(None) => return self.make_step(alloc, PlayerStep::Resume, work),
@@ -116,23 +117,23 @@ impl Machine {
     }
 
     // `currentsong`: the entry that is current, if one is. What is shown of it is kept.
-    fn write_current_song(&mut self, work: &mut Work) -> Result<(), Failure>
-        ensures { Performs (playing_meaning CurrentSong self.old) self.old self.new work.old work.new result }
+    fn write_current_song(&mut self, mask: TagMask, work: &mut Work) -> Result<(), Failure>
+        ensures { Performs (playing_meaning mask CurrentSong self.old) self.old self.new work.old work.new result }
     {
         let settings = self.settings();
         let entries = self.saved.queue().entries();
         let shown = self.kept.look(&self.player, entries, &settings);
         let mark = work.text.len();
-        let written = self.put_current(&mut work.text, shown);
+        let written = self.put_current(&mut work.text, mask, shown);
         work.keep(mark, written)
     }
 
-    fn put_current(&self, out: &mut Vec<u8>, shown: Shown) -> Result<(), NoMemory>
+    fn put_current(&self, out: &mut Vec<u8>, mask: TagMask, shown: Shown) -> Result<(), NoMemory>
         requires { shown ≡ shown_of self.now }
-        ensures { Adds (shown_info self.now.saved (shown_of self.now).current) result out.old out.new }
+        ensures { Adds (shown_info mask self.now.saved (shown_of self.now).current) result out.old out.new }
     {
         match shown.current {
-            Some(position) => write_position(out, &self.saved, position),
+            Some(position) => write_position(out, mask, &self.saved, position),
             None => Ok(()),
         }
     }

@@ -1,5 +1,6 @@
 // `save`: the songs of the queue as a new playlist, or for one that is there.
 ghost use Rattle.std.specs.Prelude.{◌≡◌, ℕ, None, Ok, [], IfOk, IfErr, OnOk, OnErr, IsOkUnless, if◌then◌else◌};
+ghost use Rattle.command_text.specs.Masks.{all_in_mask};
 ghost use Rattle.command_text.specs.declared.command.lists.ListsCommand.TheVariants as commands;
 ghost use Rattle.command_text.specs.declared.command.lists.SaveMode.TheVariants.{Create, Append, Replace};
 ghost use Rattle.profile.specs.declared.profile.Profile.{Profile};
@@ -26,7 +27,7 @@ impl Machine {
         work: &mut Work,
     ) -> Result<(), Failure>
         requires { HasRoom command_room work.old }
-        ensures { Performs (lists_meaning (commands.Save name.now mode) self.old) self.old self.new work.old work.new result }
+        ensures { Performs (lists_meaning all_in_mask (commands.Save name.now mode) self.old) self.old self.new work.old work.new result }
     {
         match mode {
             SaveMode::Create => self.create_list(alloc, name, work),
@@ -38,7 +39,7 @@ impl Machine {
     // A new playlist.
     fn create_list(&mut self, alloc: Global, name: &str, work: &mut Work) -> Result<(), Failure>
         requires { HasRoom command_room work.old }
-        ensures { Performs (lists_meaning (commands.Save name.now Create) self.old) self.old self.new work.old work.new result }
+        ensures { Performs (lists_meaning all_in_mask (commands.Save name.now Create) self.old) self.old self.new work.old work.new result }
     {
         let name = list_name(alloc, name)?;
         self.edit(alloc, Op::List(ListOp::Save { name }), work)
@@ -47,7 +48,7 @@ impl Machine {
     // The songs of the queue at the end of a playlist that is there.
     fn append_to_list(&mut self, alloc: Global, name: &str, work: &mut Work) -> Result<(), Failure>
         requires { HasRoom command_room work.old }
-        ensures { Performs (lists_meaning (commands.Save name.now Append) self.old) self.old self.new work.old work.new result }
+        ensures { Performs (lists_meaning all_in_mask (commands.Save name.now Append) self.old) self.old self.new work.old work.new result }
     {
         songs_named(self.saved.lists(), name)?;
         let entries = self.saved.queue().entries();
@@ -59,7 +60,8 @@ impl Machine {
     // The songs of the queue in place of those of a playlist that is there.
     fn replace_list(&mut self, alloc: Global, name: &str, work: &mut Work) -> Result<(), Failure>
         requires { HasRoom command_room work.old }
-        ensures { Performs (lists_meaning (commands.Save name.now Replace) self.old) self.old self.new work.old work.new result }
+        ensures { Performs (lists_meaning all_in_mask (commands.Save name.now Replace) self.old) self.old self.new work.old work.new
+            result }
     {
         let name = list_name(alloc, name)?;
         self.replace_songs(alloc, &name, work)

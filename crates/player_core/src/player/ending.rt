@@ -7,7 +7,9 @@ ghost use Rattle.player_core.specs.Refusal.{AnswersIfMemory, refusal_of};
 
 use super::Player;
 use crate::changes::Changes;
-use crate::followed::{consumed, followed_by, go_on_or_stop, is_on, is_oneshot, order_of};
+use crate::followed::{
+    consumed, followed_by, go_on_or_stop, hold_if, is_on, is_oneshot, order_of, turns_off, waits,
+};
 use crate::options::Single;
 use crate::placing::placed;
 use crate::played::make_room;
@@ -18,7 +20,8 @@ use crate::settings::PlaySettings;
 use play_queue::Entries;
 
 impl Player {
-    /// The output has played the last frame. It counts in play, with the present ticket alone.
+    /// The output has played the last frame. It counts in play, with the present ticket alone. With `single` the player then stops, and
+    /// the song stays current, or under `repeat` plays again; as MPD has it, without `repeat` the next song is paused at its first frame.
     pub fn ended(
         &mut self,
         entries: &Entries,
@@ -53,7 +56,7 @@ impl Player {
     }
 
     // The current song is over.
-    fn finish(
+    pub(super) fn finish(
         &mut self,
         entries: &Entries,
         settings: &PlaySettings,
@@ -81,10 +84,12 @@ impl Player {
         let block = consumed(entries, consumes, at);
         leave(&mut self.played, entries, block, &[]);
         go_on_or_stop(&mut self.playing, &mut self.played, options.random, next);
+        let waits = waits(single, settings.manners, options.repeat);
+        hold_if(&mut self.playing, waits);
         Ok(Changes {
             order: order_of(next),
             removed: if consumes { Some(at) } else { None },
-            single_off: is_oneshot(single),
+            single_off: turns_off(single, settings.manners, self.playing.state),
             consume_off: is_oneshot(options.consume),
         })
     }

@@ -11,7 +11,7 @@ use crate::volume::Volume;
 use play_queue::{Entries, EntryRef};
 use std::alloc::{AllocError, Global};
 
-fn current_entry(entries: &Entries, current: Option<u32>) -> Option<EntryRef<'_>>
+pub(super) fn current_entry(entries: &Entries, current: Option<u32>) -> Option<EntryRef<'_>>
     ensures { option_map shown result ≡ current_entry entries.now current }
 {
     match current {

@@ -1,29 +1,16 @@
 // What the output reports, and what else changes beside the queue.
-ghost use Rattle.std.specs.Prelude.{◌≡◌, None, IfOk, OnErr, OnOk, IsOkUnless};
-ghost use Rattle.player_core.specs.Reports.{counts, failure, fed, broken, cut, turned};
+ghost use Rattle.std.specs.Prelude.{◌≡◌, None, OnErr, OnOk, IsOkUnless};
+ghost use Rattle.player_core.specs.Reports.{counts, fed, cut, turned};
 
 use super::Player;
-use crate::failure::{BrokenCause, PlayFailure};
 use crate::played::make_room;
 use crate::playing::PlayState;
 use crate::refusal::PlayerError;
 use crate::seek::frame_after;
-use song_db::Uri;
-use std::alloc::{AllocError, Global};
-
-// The failure of a song at a URI.
-fn failure(alloc: Global, cause: BrokenCause, uri: &Uri) -> Result<PlayFailure, AllocError>
-    ensures { IfOk result (λ made. made ≡ failure cause uri.now) }
-{
-    match cause {
-        BrokenCause::Source => Ok(PlayFailure::CannotPlay(uri.try_clone(alloc)?)),
-        BrokenCause::Output => Ok(PlayFailure::OutputFailed),
-    }
-}
 
 impl Player {
     // Whether a report with this ticket counts.
-    fn counts(&self, ticket: u64) -> bool
+    pub(super) fn counts(&self, ticket: u64) -> bool
         ensures { result ≡ counts self.now.state self.now.ticket ticket }
     {
         match self.playing.state {
@@ -40,27 +27,6 @@ impl Player {
         if self.counts(ticket) {
             self.playing.frame = frame_after(self.playing.frame, frames, total);
         }
-    }
-
-    /// The current song, at this URI, could not be played on: the player stops, and the song stays current.
-    /// It counts in play and pause, with the present ticket alone.
-    pub fn broken(
-        &mut self,
-        alloc: Global,
-        ticket: u64,
-        cause: BrokenCause,
-        uri: &Uri,
-    ) -> Result<(), PlayerError>
-        ensures ok { OnOk result (self.new ≡ broken self.old ticket cause uri.now) }
-        ensures err { OnErr result (self.new ≡ self.old) }
-        ensures answer { IsOkUnless result PlayerError.NoMemory }
-    {
-        if self.counts(ticket) {
-            let error = failure(alloc, cause, uri)?;
-            self.playing.state = PlayState::Stop;
-            self.playing.error = Some(error);
-        }
-        Ok(())
     }
 
     /// The row of the current song has changed, and has so many frames now.

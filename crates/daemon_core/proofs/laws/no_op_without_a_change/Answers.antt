@@ -10,6 +10,8 @@ returns c =
       same = of_command.same;
       ended_none = of_event.none;
       ended_same = of_event.same;
+      broken_none = of_event.broken_none;
+      broken_same = of_event.broken_same;
       found = of_event.found;
     } in
     record { none = no_op known; same = nothing_changed known }

@@ -6,7 +6,8 @@ use Rattle.daemon_core.proofs.request.run_command.Goals as goal
 pub returns-in-Ok-clause-ran : goal.returns-in-Ok-clause-ran
 returns-in-Ok-clause-ran c =
     went_on c.args.command (separator c.args.separated) c.args.machine.now c.perform.new.self c.args.work.now c.perform.new.work
-    c.separate.new.work c.args.looks.now c.in-Ok.changed c.in-Ok.ensures.performs (sym c.in-None.ensures) c.separate.ensures.text
+    c.separate.new.work c.args.looks.now c.args.tags c.in-Ok.changed c.in-Ok.ensures.performs
+    (sym c.in-None.ensures) c.separate.ensures.text
     c.separate.ensures.room
     c.in-Ok.ensures.changed
 
@@ -16,7 +17,8 @@ returns-in-Err-Refused-clause-ran c =
     record {
       stands = failed.state;
       nothing = failed.nothing;
-      why = performed_refuses (spent_of c.args.work.now.size c.args.looks.now) c.args.command c.args.machine.now _ (sym c.in-None.ensures)
+      why = performed_refuses (spent_of c.args.work.now.size c.args.looks.now c.args.tags) c.args.command c.args.machine.now _
+          (sym c.in-None.ensures)
           failed.refusal;
     }
 
@@ -24,7 +26,7 @@ pub returns-in-Some-clause-ran : goal.returns-in-Some-clause-ran
 returns-in-Some-clause-ran c = record {
   stands = refl;
   nothing = record { text = refl; room = omega arith; ops = refl; size = refl };
-  why = performed_ends (spent_of c.args.work.now.size c.args.looks.now) c.args.command c.args.machine.now c.in-Some.ending
+  why = performed_ends (spent_of c.args.work.now.size c.args.looks.now c.args.tags) c.args.command c.args.machine.now c.in-Some.ending
       (sym c.in-Some.ensures);
 }
 

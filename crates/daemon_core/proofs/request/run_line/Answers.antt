@@ -3,14 +3,16 @@ use Rattle.std.specs.Prelude.{Ok, Err}
 use Rattle.state_codec.specs.SavedState.{SavedState}
 use Rattle.daemon_core.specs.Run.{separator, spent_of}
 use Rattle.daemon_core.proofs.RequestLaws.{words_stop, words_count, command_stop, command_counts, line_runs, line_looks, looks_counted}
-use Rattle.daemon_core.proofs.RequestLaws.{read_under}
+use Rattle.daemon_core.proofs.RequestLaws.{words_tags, command_tags}
+use Rattle.daemon_core.proofs.RequestLaws.{line_tags, read_under, tags_seen_so}
 use Rattle.daemon_core.proofs.request.run_line.Goals as goal
 
 pub returns-in-Err-clause-runs : goal.returns-in-Err-clause-runs
 returns-in-Err-clause-runs c = record {
   stands = refl;
   nothing = c.make_room.ensures.nothing;
-  why = words_stop c.args.place (spent_of c.args.work.now.size c.args.looks.now) c.args.line.now c.args.machine.now c.in-Err.error
+  why = words_stop c.args.place (spent_of c.args.work.now.size c.args.looks.now c.args.tags.now) c.args.line.now c.args.machine.now
+      c.in-Err.error
       c.stop_of_reading.result
       c.in-Err.ensures.exact c.stop_of_reading.ensures;
 }
@@ -27,7 +29,7 @@ returns-clause-runs c =
     record {
       stands = refl;
       nothing = c.make_room.ensures.nothing;
-      why = command_stop c.args.place (spent_of c.args.work.now.size c.args.looks.now) c.args.line.now c.in-Ok.words.items
+      why = command_stop c.args.place (spent_of c.args.work.now.size c.args.looks.now c.args.tags.now) c.args.line.now c.in-Ok.words.items
           c.as_slice.result.now c.args.machine.now c.in-Err-read.error c.stop_of_reading-in-Err-read.result c.in-Ok.ensures.exact
           c.as_slice.ensures.value (read_under c.args.place c.as_slice.result.now (Err c.in-Err-read.error) same
           c.in-Err-read.ensures.exact) c.stop_of_reading-in-Err-read.ensures;
@@ -48,7 +50,7 @@ returns-in-Ok-read-clause-runs c =
     c.profile-profile.ensures ∙ ap (λ (s : SavedState). s.profile) c.saved.ensures in
     line_runs c.args.place (separator c.args.separated) c.args.line.now c.in-Ok.words.items c.as_slice.result.now c.in-Ok-read.command
     c.args.machine.now c.run_command.new.machine c.args.work.now c.make_room.new.self c.run_command.new.work
-    c.args.looks.now c.run_command.result c.in-Ok.ensures.exact c.as_slice.ensures.value
+    c.args.looks.now c.args.tags.now c.run_command.result c.in-Ok.ensures.exact c.as_slice.ensures.value
     (read_under c.args.place c.as_slice.result.now (Ok c.in-Ok-read.command) same c.in-Ok-read.ensures.exact)
     c.make_room.ensures.nothing
     c.run_command.ensures.ran
@@ -61,3 +63,26 @@ returns-in-Ok-read-clause-looks c =
     (line_looks c.args.place c.args.line.now c.in-Ok.words.items c.as_slice.result.now c.in-Ok-read.command c.args.machine.now
     c.in-Ok.ensures.exact c.as_slice.ensures.value
     (read_under c.args.place c.as_slice.result.now (Ok c.in-Ok-read.command) same c.in-Ok-read.ensures.exact)) c.run_command.ensures.looks
+
+pub returns-in-Err-clause-tags : goal.returns-in-Err-clause-tags
+returns-in-Err-clause-tags c =
+    words_tags c.args.place c.args.line.now c.args.machine.now c.in-Err.error c.stop_of_reading.result c.args.tags.now
+    c.in-Err.ensures.exact c.stop_of_reading.ensures
+
+pub returns-clause-tags : goal.returns-clause-tags
+returns-clause-tags c =
+    let same : c.profile-profile.result ≡ c.args.machine.now.saved.profile =
+    c.profile-profile.ensures ∙ ap (λ (s : SavedState). s.profile) c.saved.ensures in
+    command_tags c.args.place c.args.line.now c.in-Ok.words.items c.as_slice.result.now c.args.machine.now c.in-Err-read.error
+    c.stop_of_reading-in-Err-read.result c.args.tags.now c.in-Ok.ensures.exact c.as_slice.ensures.value
+    (read_under c.args.place c.as_slice.result.now (Err c.in-Err-read.error) same c.in-Err-read.ensures.exact)
+    c.stop_of_reading-in-Err-read.ensures
+
+pub returns-in-Ok-read-clause-tags : goal.returns-in-Ok-read-clause-tags
+returns-in-Ok-read-clause-tags c =
+    let same : c.profile-profile.result ≡ c.args.machine.now.saved.profile =
+    c.profile-profile.ensures ∙ ap (λ (s : SavedState). s.profile) c.saved.ensures in
+    tags_seen_so c.run_command.result _ c.tags_behind.result (c.tags_behind.ensures
+    ∙ line_tags c.args.place c.args.line.now c.in-Ok.words.items c.as_slice.result.now c.in-Ok-read.command c.args.machine.now
+    c.args.tags.now c.in-Ok.ensures.exact c.as_slice.ensures.value
+    (read_under c.args.place c.as_slice.result.now (Ok c.in-Ok-read.command) same c.in-Ok-read.ensures.exact))

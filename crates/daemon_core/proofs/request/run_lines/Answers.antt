@@ -8,19 +8,21 @@ use Rattle.daemon_core.proofs.request.run_lines.Goals as goal
 pub loop-line-init : goal.loop-line-init
 loop-line-init c =
     subst (λ looks. SoFar c.args.place (separator c.args.separated) c.args.lines c.args.lines 0 c.args.machine.now
-    c.args.machine.now c.args.work.now c.args.work.now looks c.none-changed.result) (sym c.new-looks.ensures)
+    c.args.machine.now c.args.work.now c.args.work.now looks c.args.tags c.args.tags c.none-changed.result) (sym c.new-looks.ensures)
     (subst (SoFar c.args.place (separator c.args.separated) c.args.lines c.args.lines 0 c.args.machine.now c.args.machine.now
-    c.args.work.now c.args.work.now 0) (sym c.none-changed.ensures)
-    (so_far_begins c.args.place (separator c.args.separated) c.args.lines c.args.machine.now c.args.work.now c.requires.room))
+    c.args.work.now c.args.work.now 0 c.args.tags c.args.tags) (sym c.none-changed.ensures)
+    (so_far_begins c.args.place (separator c.args.separated) c.args.lines c.args.machine.now c.args.work.now c.args.tags c.requires.room))
 
 pub loop-line-preserved : goal.loop-line-preserved
 loop-line-preserved c =
     subst (SoFar c.args.place (separator c.args.separated) c.args.lines c.in-Some.after _ c.args.machine.now
-    c.run_line.new.machine c.args.work.now c.run_line.new.work c.run_line.new.looks) (sym c.union-changed.ensures)
+    c.run_line.new.machine c.args.work.now c.run_line.new.work c.run_line.new.looks c.args.tags c.run_line.new.tags)
+    (sym c.union-changed.ensures)
     (ran_goes c.args.place (separator c.args.separated) c.args.lines c.loop-line.rest c.in-Some.after
     c.in-Some.line.now c.loop-line.index c.args.machine.now c.loop-line.machine
     c.run_line.new.machine c.args.work.now c.loop-line.work c.run_line.new.work c.loop-line.looks c.run_line.new.looks
-    c.loop-line.changed c.in-Ok.set c.in-Some.ensures.first c.loop-line.invariant c.in-Ok.ensures.runs c.in-Ok.ensures.looks)
+    c.args.tags c.loop-line.tags c.run_line.new.tags c.loop-line.changed c.in-Ok.set c.in-Some.ensures.first c.loop-line.invariant
+    c.in-Ok.ensures.runs c.in-Ok.ensures.looks c.in-Ok.ensures.tags)
 
 pub returns-in-Err : goal.returns-in-Err
 returns-in-Err c =
@@ -29,15 +31,17 @@ returns-in-Err c =
     c.in-Some.line.now c.loop-line.index c.args.machine.now c.loop-line.machine
     c.run_line.new.machine c.args.work.now c.loop-line.work c.run_line.new.work c.answer_stop-ending.new.work c.loop-line.looks
     c.run_line.new.looks c.looks_at_end-looks.result
+    c.args.tags c.loop-line.tags c.run_line.new.tags c.tags_at_end-tags.result
     c.loop-line.changed c.in-Err.stop c.answer_stop-ending.result.1 c.answer_stop-ending.result.0 c.in-Some.ensures.first
     c.loop-line.invariant
-    c.in-Err.ensures.runs c.in-Err.ensures.looks c.looks_at_end-looks.ensures
+    c.in-Err.ensures.runs c.in-Err.ensures.looks c.looks_at_end-looks.ensures c.in-Err.ensures.tags c.tags_at_end-tags.ensures
     (subst (λ p. AnswersStop p c.in-Err.stop c.loop-line.index c.in-Some.line.now c.answer_stop-ending.result.1
     c.answer_stop-ending.result.0 c.run_line.new.work c.answer_stop-ending.new.work) profile c.answer_stop-ending.ensures)
 
 pub returns : goal.returns
 returns c =
     ran_all c.args.place (separator c.args.separated) c.args.lines c.loop-line.rest c.loop-line.index c.args.machine.now
-    c.loop-line.machine c.args.work.now c.loop-line.work c.end.new.self c.loop-line.looks c.taken.result c.loop-line.changed
+    c.loop-line.machine c.args.work.now c.loop-line.work c.end.new.self c.loop-line.looks c.taken.result c.args.tags c.loop-line.tags
+    c.loop-line.changed
     (c.in_default.ensures.none refl)
     c.loop-line.invariant c.taken.ensures c.end.ensures

@@ -5,7 +5,8 @@ use Rattle.daemon_core.proofs.request.run_lines.Given as goal
 
 abbrev pub invariant-loop-line : goal.invariant-loop-line
 invariant-loop-line l =
-    SoFar l.place (separator l.separated) l.fn.lines l.rest l.index l.fn.machine l.machine l.fn.work l.work l.looks l.changed
+    SoFar l.place (separator l.separated) l.fn.lines l.rest l.index l.fn.machine l.machine l.fn.work l.work l.looks l.fn.tags l.tags
+    l.changed
 
 abbrev pub decreases-loop-line : goal.decreases-loop-line
 decreases-loop-line l = length l.rest

@@ -5,4 +5,4 @@ use Rattle.machine_core.proofs.answer.write_songs.Given as goal
 
 abbrev pub invariant-loop-song : goal.invariant-loop-song
 invariant-loop-song l =
-    Leaves song_lines (map (λ song. song.now) l.songs) (map (λ song. song.now) (drop l.song-index l.songs)) l.fn.out l.out
+    Leaves (song_lines l.mask) (map (λ song. song.now) l.songs) (map (λ song. song.now) (drop l.song-index l.songs)) l.fn.out l.out

@@ -15,7 +15,7 @@ loop-row-preserved-then-is_some c =
     let other : is_right_in place row.uri ≡ false =
     further_down place c.uri.result.now row.uri c.folder_of.result c.folder_of.ensures c.uri.ensures.text
     (sym c.is_some.ensures ∙ c.if-is_some.true) in
-    leaves_same song_lines (told_songs_in place rows) (told_songs_in place (drop at.row-index rows))
+    leaves_same (song_lines c.args.mask) (told_songs_in place rows) (told_songs_in place (drop at.row-index rows))
     (told_songs_in place (drop (at.row-index + 1) rows)) _ _
     (song_passed place rows at.row-index row (omega arith) c.row-item.is other) at.invariant
 
@@ -28,8 +28,8 @@ loop-row-preserved c =
     let here : is_right_in place row.uri ≡ true =
     right_in place c.uri.result.now row.uri c.folder_of.result c.folder_of.ensures c.uri.ensures.text
     (sym c.is_some.ensures ∙ c.if-is_some.false) in
-    leaves_fewer song_lines (told_songs_in place rows) row (told_songs_in place (drop (at.row-index + 1) rows)) _ _ _ _
-    (leaves_same song_lines (told_songs_in place rows) (told_songs_in place (drop at.row-index rows))
+    leaves_fewer (song_lines c.args.mask) (told_songs_in place rows) row (told_songs_in place (drop (at.row-index + 1) rows)) _ _ _ _
+    (leaves_same (song_lines c.args.mask) (told_songs_in place rows) (told_songs_in place (drop at.row-index rows))
     (row ∷ told_songs_in place (drop (at.row-index + 1) rows)) _ _
     (song_met place rows at.row-index row (omega arith) c.row-item.is here) at.invariant) c.in_ok-write_song.ensures
 
@@ -42,8 +42,8 @@ returns-in_err-write_song c =
     let here : is_right_in place row.uri ≡ true =
     right_in place c.uri.result.now row.uri c.folder_of.result c.folder_of.ensures c.uri.ensures.text
     (sym c.is_some.ensures ∙ c.if-is_some.false) in
-    leaves_off song_lines (told_songs_in place rows) row (told_songs_in place (drop (at.row-index + 1) rows)) _ _ _ _ _
-    (leaves_same song_lines (told_songs_in place rows) (told_songs_in place (drop at.row-index rows))
+    leaves_off (song_lines c.args.mask) (told_songs_in place rows) row (told_songs_in place (drop (at.row-index + 1) rows)) _ _ _ _ _
+    (leaves_same (song_lines c.args.mask) (told_songs_in place rows) (told_songs_in place (drop at.row-index rows))
     (row ∷ told_songs_in place (drop (at.row-index + 1) rows)) _ _
     (song_met place rows at.row-index row (omega arith) c.row-item.is here) at.invariant)
     c.in_err-write_song.ensures c.from_residual.ensures.0
@@ -52,6 +52,6 @@ pub returns : goal.returns
 returns c =
     let place = c.args.place in
     let rows = c.args.rows.now in
-    leaves_none song_lines (told_songs_in place rows) _ _ _
-    (leaves_same song_lines (told_songs_in place rows) (told_songs_in place (drop c.loop-row.row-index rows)) _ _ _
+    leaves_none (song_lines c.args.mask) (told_songs_in place rows) _ _ _
+    (leaves_same (song_lines c.args.mask) (told_songs_in place rows) (told_songs_in place (drop c.loop-row.row-index rows)) _ _ _
     (no_songs place rows c.loop-row.row-index (omega arith)) c.loop-row.invariant)

@@ -5,4 +5,4 @@ use Rattle.machine_core.proofs.Database.Lines.{type_in}
 use Rattle.machine_core.proofs.answer_database.write_tag_types.Given as goal
 
 abbrev pub invariant-loop-number : goal.invariant-loop-number
-invariant-loop-number l = Leaves (type_in l.fn.tags) all_tags (drop l.number all_tags) l.fn.out l.out
+invariant-loop-number l = Leaves (type_in l.fn.mask l.fn.tags) all_tags (drop l.number all_tags) l.fn.out l.out

@@ -6,15 +6,15 @@ use Rattle.machine_core.proofs.answer_entries.write_span.Goals as goal
 
 pub loop-position-preserved : goal.loop-position-preserved
 loop-position-preserved c =
-    position_next (position_info c.args.saved.now) (positions_in c.args.span) c.loop-position.position c.args.span.end _ _
+    position_next (position_info c.args.mask c.args.saved.now) (positions_in c.args.span) c.loop-position.position c.args.span.end _ _
     c.loop-position.invariant _ _ (omega arith) c.in_ok-write_position.ensures
 
 pub returns-in_err-write_position : goal.returns-in_err-write_position
 returns-in_err-write_position c =
-    positions_off (position_info c.args.saved.now) (positions_in c.args.span) c.loop-position.position c.args.span.end _ _
+    positions_off (position_info c.args.mask c.args.saved.now) (positions_in c.args.span) c.loop-position.position c.args.span.end _ _
     c.loop-position.invariant _ _ _ (omega arith) c.in_err-write_position.ensures c.from_residual.ensures.0
 
 pub returns : goal.returns
 returns c =
-    positions_done (position_info c.args.saved.now) (positions_in c.args.span) c.loop-position.position c.args.span.end _ _
+    positions_done (position_info c.args.mask c.args.saved.now) (positions_in c.args.span) c.loop-position.position c.args.span.end _ _
     c.loop-position.invariant _ (omega arith)

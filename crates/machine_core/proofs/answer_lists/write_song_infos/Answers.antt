@@ -8,7 +8,7 @@ pub loop-uri-preserved : goal.loop-uri-preserved
 loop-uri-preserved c =
     let songs = c.args.songs.now in
     let at = c.loop-uri in
-    leaves_fewer (song_info c.args.database.now) songs c.uri-item.result (drop (at.uri-index + 1) songs) _ _ _ _
+    leaves_fewer (song_info c.args.mask c.args.database.now) songs c.uri-item.result (drop (at.uri-index + 1) songs) _ _ _ _
     (rw (next_song songs at.uri-index c.uri-item.result (omega arith) c.uri-item.is) at at.invariant)
     (rw c.as_str.ensures.text at c.in_ok-write_song_info.ensures)
 
@@ -16,12 +16,12 @@ pub returns-in_err-write_song_info : goal.returns-in_err-write_song_info
 returns-in_err-write_song_info c =
     let songs = c.args.songs.now in
     let at = c.loop-uri in
-    leaves_off (song_info c.args.database.now) songs c.uri-item.result (drop (at.uri-index + 1) songs) _ _ _ _ _
+    leaves_off (song_info c.args.mask c.args.database.now) songs c.uri-item.result (drop (at.uri-index + 1) songs) _ _ _ _ _
     (rw (next_song songs at.uri-index c.uri-item.result (omega arith) c.uri-item.is) at at.invariant)
     (rw c.as_str.ensures.text at c.in_err-write_song_info.ensures) c.from_residual.ensures.0
 
 pub returns : goal.returns
 returns c =
     let songs = c.args.songs.now in
-    leaves_none (song_info c.args.database.now) songs _ _ _
+    leaves_none (song_info c.args.mask c.args.database.now) songs _ _ _
     (rw (none_left songs c.loop-uri.uri-index (omega arith)) at c.loop-uri.invariant)

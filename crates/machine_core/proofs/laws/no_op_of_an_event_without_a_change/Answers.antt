@@ -8,10 +8,10 @@ use Rattle.state_codec.specs.declared.op.Op.TheVariants.{Batch}
 use Rattle.machine_core.specs.Followed.{followed}
 use Rattle.machine_core.specs.Happening.{nothing_happens}
 use Rattle.machine_core.specs.Meaning.{order_ops}
-use Rattle.machine_core.specs.Reports.{when_ended}
+use Rattle.machine_core.specs.Reports.{when_broken, when_ended}
 use Rattle.machine_core.specs.Scanning.{finds, is_running, kept_changes, telling}
 use Rattle.machine_core.specs.State.{MachineState}
-use Rattle.machine_core.specs.declared.steps.PlayerStep.TheVariants.{Ended}
+use Rattle.machine_core.specs.declared.steps.PlayerStep.TheVariants.{Ended, Failed}
 use Rattle.machine_core.proofs.StepsLawful.{moves_lawful}
 use Rattle.machine_core.proofs.laws.no_op_of_an_event_without_a_change.Goals as goal
 
@@ -22,6 +22,15 @@ pub returns-clause-same : goal.returns-clause-same
 returns-clause-same c = λ ticket m empty.
     let rebuilt : Some m.saved ≡ Some (when_ended ticket m).after.saved =
     sym (ap (λ ops. all_applied ops m.saved) empty) ∙ (moves_lawful (Ended ticket) m).rebuilt in
+    cc
+
+pub returns-clause-broken_none : goal.returns-clause-broken_none
+returns-clause-broken_none c = λ ticket cause m kept same. ((moves_lawful (Failed ticket cause) m).tells kept).none same
+
+pub returns-clause-broken_same : goal.returns-clause-broken_same
+returns-clause-broken_same c = λ ticket cause m empty.
+    let rebuilt : Some m.saved ≡ Some (when_broken ticket cause m).after.saved =
+    sym (ap (λ ops. all_applied ops m.saved) empty) ∙ (moves_lawful (Failed ticket cause) m).rebuilt in
     cc
 
 behind_order : (order : Option ℕ) (op : Op) → order_ops order ++ op ∷ [] ≡ [] → ⊥

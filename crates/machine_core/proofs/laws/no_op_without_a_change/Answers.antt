@@ -5,10 +5,10 @@ use Rattle.machine_core.proofs.FormLaws.{IsLawful, Lawful}
 use Rattle.machine_core.proofs.laws.no_op_without_a_change.Goals as goal
 
 pub returns-clause-none : goal.returns-clause-none
-returns-clause-none c = λ command m x kept is same. ((subst (Lawful m) is (command_lawful command m)).tells kept).none same
+returns-clause-none c = λ mask command m x kept is same. ((subst (Lawful m) is (command_lawful mask command m)).tells kept).none same
 
 pub returns-clause-same : goal.returns-clause-same
-returns-clause-same c = λ command m x is empty.
-    let lawful : IsLawful m x = subst (Lawful m) is (command_lawful command m) in
+returns-clause-same c = λ mask command m x is empty.
+    let lawful : IsLawful m x = subst (Lawful m) is (command_lawful mask command m) in
     let rebuilt : Some m.saved ≡ Some x.after.saved = sym (ap (λ ops. all_applied ops m.saved) empty) ∙ lawful.rebuilt in
     cc

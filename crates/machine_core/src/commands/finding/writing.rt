@@ -13,7 +13,7 @@ use super::gathering::matching_rows;
 use super::part::Part;
 use super::windowed;
 use crate::answer::write_songs;
-use command_text::{NoMemory, Search, write_entry, write_file, write_song, write_value};
+use command_text::{NoMemory, Search, TagMask, write_entry, write_file, write_song, write_value};
 use filter_expr::{Case, Filter};
 use play_queue::{Entries, EntryRef};
 use song_db::{SongDb, SongRow, Texts};
@@ -24,12 +24,13 @@ use std::alloc::Global;
 pub(super) fn write_matching(
     out: &mut Vec<u8>,
     alloc: Global,
+    mask: TagMask,
     rows: &[SongRow],
     case: Case,
     filter: &Filter,
     part: Part,
 ) -> Result<(), NoMemory>
-    ensures { Writes (flat_map song_lines (part_of part (matching case filter.now rows.now))) result out.old out.new }
+    ensures { Writes (flat_map (song_lines mask) (part_of part (matching case filter.now rows.now))) result out.old out.new }
 {
     let mut part = part;
     for row in rows {
@@ -42,7 +43,7 @@ pub(super) fn write_matching(
         if !part.takes() {
             continue;
         }
-        write_song(out, row)?;
+        write_song(out, mask, row)?;
     }
     Ok(())
 }
@@ -51,31 +52,41 @@ pub(super) fn write_matching(
 fn write_selected(
     out: &mut Vec<u8>,
     alloc: Global,
+    mask: TagMask,
     songs: &SongDb,
     search: &Search,
 ) -> Result<(), NoMemory>
     requires { search.now.sort ≡ None }
-    ensures { Writes (flat_map song_lines (found Named search.now songs.now)) result out.old out.new }
+    ensures { Writes (flat_map (song_lines mask) (found Named search.now songs.now)) result out.old out.new }
 {
     let found = matching_rows(alloc, songs, search.case, &search.filter)?;
-    write_songs(out, windowed(&found, search.window))
+    write_songs(out, mask, windowed(&found, search.window))
 }
 
 // Adds what a search finds that stays by URI.
 pub(super) fn write_by_uri(
     out: &mut Vec<u8>,
     alloc: Global,
+    mask: TagMask,
     songs: &SongDb,
     search: &Search,
 ) -> Result<(), NoMemory>
     requires { search.now.sort ≡ None }
-    ensures { Writes (flat_map song_lines (found Named search.now songs.now)) result out.old out.new }
+    ensures { Writes (flat_map (song_lines mask) (found Named search.now songs.now)) result out.old out.new }
 {
     match search.case {
-        Case::Exact => write_selected(out, alloc, songs, search),
+        Case::Exact => write_selected(out, alloc, mask, songs, search),
         Case::Folded => {
             let part = Part::of_window(search.window, songs.len());
-            write_matching(out, alloc, songs.rows(), search.case, &search.filter, part)
+            write_matching(
+                out,
+                alloc,
+                mask,
+                songs.rows(),
+                search.case,
+                &search.filter,
+                part,
+            )
         }
     }
 }
@@ -130,17 +141,19 @@ pub(super) fn write_values(out: &mut Vec<u8>, tag: Tag, values: &Texts<'_>) -> R
 pub(super) fn write_entries(
     out: &mut Vec<u8>,
     alloc: Global,
+    mask: TagMask,
     songs: &SongDb,
     entries: &Entries,
     case: Case,
     filter: &Filter,
 ) -> Result<(), NoMemory>
-    ensures { Writes (entries_found case filter.now songs.now 0 entries.now) result out.old out.new }
+    ensures { Writes (entries_found mask case filter.now songs.now 0 entries.now) result out.old out.new }
 {
     for position in 0..entries.len() {
         write_match(
             out,
             alloc,
+            mask,
             songs,
             case,
             filter,
@@ -155,13 +168,14 @@ pub(super) fn write_entries(
 fn write_match(
     out: &mut Vec<u8>,
     alloc: Global,
+    mask: TagMask,
     songs: &SongDb,
     case: Case,
     filter: &Filter,
     position: usize,
     entry: &EntryRef<'_>,
 ) -> Result<(), NoMemory>
-    ensures { Writes (entry_found case filter.now position (shown entry.now) (row_at songs.now (shown entry.now).uri))
+    ensures { Writes (entry_found mask case filter.now position (shown entry.now) (row_at songs.now (shown entry.now).uri))
         result out.old out.new }
 {
     let Ok(row) = songs.row_of(entry.uri) else {
@@ -170,5 +184,5 @@ fn write_match(
     if !filter.matches(alloc, row, case)? {
         return Ok(());
     }
-    write_entry(out, row, position, entry)
+    write_entry(out, mask, row, position, entry)
 }

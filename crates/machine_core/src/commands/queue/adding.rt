@@ -1,6 +1,7 @@
 // The commands that add songs to the queue.
 ghost use Rattle.std.specs.Prelude.{◌≡◌, [], ◌∷◌, IfOk, IsOkUnless};
 ghost use Rattle.std.specs.Option.{ok_or};
+ghost use Rattle.command_text.specs.Masks.{all_in_mask};
 ghost use Rattle.command_text.specs.AnswerSongs.{id_line};
 ghost use Rattle.command_text.specs.declared.command.queue.QueueCommand.TheVariants as commands;
 ghost use Rattle.command_text.specs.declared.refusal.CommandRefusal.TheVariants.{NoSuchUri};
@@ -29,7 +30,7 @@ impl Machine {
         work: &mut Work,
     ) -> Result<(), Failure>
         requires { HasRoom command_room work.old }
-        ensures { Performs (queue_meaning (commands.Add uri.entry to) self.old) self.old self.new work.old work.new result }
+        ensures { Performs (queue_meaning all_in_mask (commands.Add uri.entry to) self.old) self.old self.new work.old work.new result }
     {
         let rows = self.rows_named(alloc, uri.as_str())?;
         self.add_rows(alloc, to, rows, work)
@@ -45,7 +46,7 @@ impl Machine {
         work: &mut Work,
     ) -> Result<(), Failure>
         requires { HasRoom command_room work.old }
-        ensures { Performs (queue_meaning (commands.AddId uri.entry to) self.old) self.old self.new work.old work.new result }
+        ensures { Performs (queue_meaning all_in_mask (commands.AddId uri.entry to) self.old) self.old self.new work.old work.new result }
     {
         let row = self.row_named(uri.as_str())?;
         let at = self.place_in(to)?;

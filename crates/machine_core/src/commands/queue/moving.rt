@@ -1,5 +1,6 @@
 // The commands that move entries of the queue.
 ghost use Rattle.std.specs.Prelude.{◌≡◌, ◌≢◌, true, option_map};
+ghost use Rattle.command_text.specs.Masks.{all_in_mask};
 ghost use Rattle.command_text.specs.declared.command.queue.QueueCommand.TheVariants as commands;
 ghost use Rattle.machine_core.specs.Memory.{grows};
 ghost use Rattle.machine_core.specs.Named.{Finds};
@@ -55,8 +56,9 @@ impl Machine {
         work: &mut Work,
     ) -> Result<(), Failure>
         requires { HasRoom command_room work.old }
-        ensures performs { Performs (queue_meaning (commands.Move range to) self.old) self.old self.new work.old work.new result }
-        ensures memory { result ≡ Err Failure.NoMemory → grows (queue_meaning (commands.Move range to) self.old) ≡ true }
+        ensures performs { Performs (queue_meaning all_in_mask (commands.Move range to) self.old) self.old self.new work.old work.new
+            result }
+        ensures memory { result ≡ Err Failure.NoMemory → grows (queue_meaning all_in_mask (commands.Move range to) self.old) ≡ true }
     {
         let current = self.current_position();
         if !can_count(Some(to), current) {
@@ -75,8 +77,9 @@ impl Machine {
         work: &mut Work,
     ) -> Result<(), Failure>
         requires { HasRoom command_room work.old }
-        ensures performs { Performs (queue_meaning (commands.MoveId id to) self.old) self.old self.new work.old work.new result }
-        ensures memory { result ≡ Err Failure.NoMemory → grows (queue_meaning (commands.MoveId id to) self.old) ≡ true }
+        ensures performs { Performs (queue_meaning all_in_mask (commands.MoveId id to) self.old) self.old self.new work.old work.new
+            result }
+        ensures memory { result ≡ Err Failure.NoMemory → grows (queue_meaning all_in_mask (commands.MoveId id to) self.old) ≡ true }
     {
         let start = self.place_of_id(id)?;
         let end = start + 1;

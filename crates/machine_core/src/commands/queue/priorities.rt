@@ -2,6 +2,7 @@
 ghost use Rattle.std.specs.Prelude.{◌≡◌, ◌<◌, [], map, IfOk};
 ghost use Rattle.std.specs.List.{All};
 ghost use Rattle.std.specs.Result.{result_map_both};
+ghost use Rattle.command_text.specs.Masks.{all_in_mask};
 ghost use Rattle.command_text.specs.declared.command.queue.QueueCommand.TheVariants as commands;
 ghost use Rattle.play_queue.specs.Limits.{MAX_ENTRIES};
 ghost use Rattle.state_codec.specs.declared.op.Op.TheVariants.{Queue as OfQueue};
@@ -30,7 +31,8 @@ impl Machine {
         work: &mut Work,
     ) -> Result<(), Failure>
         requires { HasRoom command_room work.old }
-        ensures { Performs (queue_meaning (commands.Priority priority ranges.now) self.old) self.old self.new work.old work.new result }
+        ensures { Performs (queue_meaning all_in_mask (commands.Priority priority ranges.now) self.old) self.old self.new work.old
+            work.new result }
     {
         let spans = spans_in(alloc, ranges.as_slice(), self.queue_length())?;
         self.prioritize(alloc, priority, spans, work)
@@ -46,7 +48,8 @@ impl Machine {
         work: &mut Work,
     ) -> Result<(), Failure>
         requires { HasRoom command_room work.old }
-        ensures { Performs (queue_meaning (commands.PriorityId priority ids.now) self.old) self.old self.new work.old work.new result }
+        ensures { Performs (queue_meaning all_in_mask (commands.PriorityId priority ids.now) self.old) self.old self.new work.old work.new
+            result }
     {
         let spans = self.spans_of_ids(alloc, ids.as_slice())?;
         self.prioritize(alloc, priority, spans, work)

@@ -1,5 +1,6 @@
 // The commands that show entries of the queue.
 ghost use Rattle.std.specs.Prelude.{◌≡◌, IfOk, None, Some};
+ghost use Rattle.command_text.specs.Masks.{all_in_mask};
 ghost use Rattle.command_text.specs.declared.command.queue.QueueCommand.TheVariants as commands;
 ghost use Rattle.machine_core.specs.Queue.{changed_in, queue_meaning};
 ghost use Rattle.machine_core.specs.Work.{Performs};
@@ -10,7 +11,7 @@ use crate::answer_entries::{
 use crate::machine::Machine;
 use crate::span::Span;
 use crate::work::{Failure, Work};
-use command_text::PositionRange;
+use command_text::{PositionRange, TagMask};
 use play_queue::Queue;
 use std::alloc::{AllocError, Global};
 
@@ -33,21 +34,22 @@ impl Machine {
     #[tactic(auto, unfolding(crate::specs::Queue::queue_meaning))]
     pub(super) fn show_range(
         &self,
+        mask: TagMask,
         range: Option<PositionRange>,
         work: &mut Work,
     ) -> Result<(), Failure>
-        ensures { Performs (queue_meaning (commands.Info range) self.now) self.now self.now work.old work.new result }
+        ensures { Performs (queue_meaning mask (commands.Info range) self.now) self.now self.now work.old work.new result }
     {
         let span = self.span_or_all(range)?;
         let mark = work.text.len();
-        let written = write_span(&mut work.text, &self.saved, span);
+        let written = write_span(&mut work.text, mask, &self.saved, span);
         work.keep(mark, written)
     }
 
     // `playlist`: the files of all entries, numbered.
     #[tactic(auto, unfolding(crate::specs::Queue::queue_meaning))]
     pub(super) fn show_files(&self, work: &mut Work) -> Result<(), Failure>
-        ensures { Performs (queue_meaning commands.Files self.now) self.now self.now work.old work.new result }
+        ensures { Performs (queue_meaning all_in_mask commands.Files self.now) self.now self.now work.old work.new result }
     {
         let span = Span {
             start: 0,
@@ -60,26 +62,26 @@ impl Machine {
 
     // `playlistid`: all entries.
     #[tactic(auto, unfolding(crate::specs::Queue::queue_meaning))]
-    pub(super) fn show_queue(&self, work: &mut Work) -> Result<(), Failure>
-        ensures { Performs (queue_meaning (commands.InfoId None) self.now) self.now self.now work.old work.new result }
+    pub(super) fn show_queue(&self, mask: TagMask, work: &mut Work) -> Result<(), Failure>
+        ensures { Performs (queue_meaning mask (commands.InfoId None) self.now) self.now self.now work.old work.new result }
     {
         let span = Span {
             start: 0,
             end: self.queue_length(),
         };
         let mark = work.text.len();
-        let written = write_span(&mut work.text, &self.saved, span);
+        let written = write_span(&mut work.text, mask, &self.saved, span);
         work.keep(mark, written)
     }
 
     // `playlistid`: the entry with an id.
     #[tactic(auto, unfolding(crate::specs::Queue::queue_meaning))]
-    pub(super) fn show_id(&self, id: u32, work: &mut Work) -> Result<(), Failure>
-        ensures { Performs (queue_meaning (commands.InfoId (Some id)) self.now) self.now self.now work.old work.new result }
+    pub(super) fn show_id(&self, mask: TagMask, id: u32, work: &mut Work) -> Result<(), Failure>
+        ensures { Performs (queue_meaning mask (commands.InfoId (Some id)) self.now) self.now self.now work.old work.new result }
     {
         let at = self.place_of_id(id)?;
         let mark = work.text.len();
-        let written = write_position(&mut work.text, &self.saved, at as usize);
+        let written = write_position(&mut work.text, mask, &self.saved, at as usize);
         work.keep(mark, written)
     }
 
@@ -88,16 +90,17 @@ impl Machine {
     pub(super) fn show_changes(
         &self,
         alloc: Global,
+        mask: TagMask,
         version: u32,
         range: Option<PositionRange>,
         work: &mut Work,
     ) -> Result<(), Failure>
-        ensures { Performs (queue_meaning (commands.Changes version range) self.now) self.now self.now work.old work.new result }
+        ensures { Performs (queue_meaning mask (commands.Changes version range) self.now) self.now self.now work.old work.new result }
     {
         let span = self.span_or_all(range)?;
         let positions = changed_in(alloc, self.saved.queue(), version, span)?;
         let mark = work.text.len();
-        let written = write_positions(&mut work.text, &self.saved, &positions);
+        let written = write_positions(&mut work.text, mask, &self.saved, &positions);
         work.keep(mark, written)
     }
 
@@ -110,7 +113,7 @@ impl Machine {
         range: Option<PositionRange>,
         work: &mut Work,
     ) -> Result<(), Failure>
-        ensures { Performs (queue_meaning (commands.ChangesPositions version range) self.now)
+        ensures { Performs (queue_meaning all_in_mask (commands.ChangesPositions version range) self.now)
             self.now self.now work.old work.new result }
     {
         let span = self.span_or_all(range)?;

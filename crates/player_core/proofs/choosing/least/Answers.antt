@@ -4,7 +4,6 @@ use Rattle.std.proofs.lemmas.List.{length-map, get_or-map, get_or_default}
 use Rattle.play_queue.specs.declared.entry.Entry.{Entry}
 use Rattle.play_queue.specs.Shown.{shown}
 use Rattle.player_core.specs.Candidates.{is_counted, is_first}
-use Rattle.player_core.specs.RandomOrder.{Drawn}
 use Rattle.player_core.specs.Words.{Round, word}
 use Rattle.player_core.specs.declared.block.Block.{Block}
 use Rattle.play_queue.specs.Entries.{Uris}

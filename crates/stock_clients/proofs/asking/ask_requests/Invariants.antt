@@ -4,11 +4,10 @@ use Rattle.stock_clients.proofs.asking.ask_requests.Given as goal
 
 abbrev pub invariant-loop-request : goal.invariant-loop-request
 invariant-loop-request l =
-    let rest = asked_all l.masks l.later in
-    let whole = asked_all l.fn.masks l.fn.later in
+    let rest = asked_all l.later in
+    let whole = asked_all l.fn.later in
     (l.out.items ++ rest.native ≡ l.fn.out.items ++ whole.native)
     × (l.awaited ++ rest.awaited ≡ l.fn.awaited ++ whole.awaited)
-    × (rest.masks ≡ whole.masks)
     × (rest.steps ≡ whole.steps)
     × (rest.later ≡ whole.later)
 

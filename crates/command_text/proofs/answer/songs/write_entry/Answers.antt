@@ -7,13 +7,13 @@ use Rattle.command_text.proofs.answer.songs.write_entry.Goals as goal
 
 pub returns-in_err-write_song : goal.returns-in_err-write_song
 returns-in_err-write_song c =
-    adds_stop (song_lines c.args.row.now)
+    adds_stop (song_lines c.args.mask c.args.row.now)
     (concat ((number_pair (codes "Pos") c.args.position) ∷ (number_pair (codes "Id") c.args.entry.now.id)
     ∷ (priority_line c.args.entry.now.priority) ∷ [])) _ _ _ _ c.in_err-write_song.ensures c.from_residual.ensures.0
 
 pub returns-in_err-write_number : goal.returns-in_err-write_number
 returns-in_err-write_number c =
-    adds_then (song_lines c.args.row.now)
+    adds_then (song_lines c.args.mask c.args.row.now)
     (concat ((number_pair (codes "Pos") c.args.position) ∷ (number_pair (codes "Id") c.args.entry.now.id)
     ∷ (priority_line c.args.entry.now.priority) ∷ [])) _ _ _ _ _ c.in_ok-write_song.ensures
     (adds_stop (number_pair (codes "Pos") c.args.position)
@@ -22,7 +22,7 @@ returns-in_err-write_number c =
 
 pub returns-in_err-write_number-2 : goal.returns-in_err-write_number-2
 returns-in_err-write_number-2 c =
-    adds_then (song_lines c.args.row.now)
+    adds_then (song_lines c.args.mask c.args.row.now)
     (concat ((number_pair (codes "Pos") c.args.position) ∷ (number_pair (codes "Id") c.args.entry.now.id)
     ∷ (priority_line c.args.entry.now.priority) ∷ [])) _ _ _ _ _ c.in_ok-write_song.ensures
     (adds_then (number_pair (codes "Pos") c.args.position)
@@ -33,7 +33,7 @@ returns-in_err-write_number-2 c =
 
 pub returns : goal.returns
 returns c =
-    adds_then (song_lines c.args.row.now)
+    adds_then (song_lines c.args.mask c.args.row.now)
     (concat ((number_pair (codes "Pos") c.args.position) ∷ (number_pair (codes "Id") c.args.entry.now.id)
     ∷ (priority_line c.args.entry.now.priority) ∷ [])) _ _ _ _ _ c.in_ok-write_song.ensures
     (adds_then (number_pair (codes "Pos") c.args.position)

@@ -12,8 +12,9 @@ returns-clause-ok c =
     is_outcome c.args.self.now c.args.event c.handle.new.self c.tell_waiting.new.self c.in_ok-outcome.field-0
     c.tell_waiting.result
     (subst (λ s. Does (acted s c.args.event c.in_ok-outcome.field-0.outcome.refused_at) c.handle.new.self c.in_ok-outcome.field-0)
-    ((λ i. record { machine = taken.machine i; clients = taken.watch i }) ∙ c.self.view_is) c.in_ok-outcome.ensures.ok)
-    c.tell_waiting.ensures.outputs c.tell_waiting.ensures.watch c.tell_waiting.ensures.machine
+    ((λ i. record { machine = taken.machine i; clients = taken.watch i; masks = (let m = taken.masks i in m.list.items) })
+    ∙ c.self.view_is) c.in_ok-outcome.ensures.ok)
+    c.tell_waiting.ensures.outputs c.tell_waiting.ensures.watch c.tell_waiting.ensures.machine c.tell_waiting.ensures.masks
     c.in_ok-outcome.ensures.place
 
 pub returns-clause-rebuilt : goal.returns-clause-rebuilt

@@ -14,7 +14,7 @@ use Rattle.daemon_core.proofs.parts.CoreParts.connect.Goals as goal
 pub returns-clause-ok : goal.returns-clause-ok
 returns-clause-ok c =
     let p : CoreParts = c.args.self.now in
-    let q : CoreParts = record { machine = p.machine; watch = c.join.new.self; room = c.take.new.self } in
+    let q : CoreParts = record { machine = p.machine; watch = c.join.new.self; masks = c.forget.new.self; room = c.take.new.self } in
     let h = c.in_ok-handled.handled in
     let but = subst (λ (b : List ℕ). IsNothingBut (output c.args.client b ∷ []) [] h) c.in_ok-greeting.ensures c.in_ok-handled.ensures in
     let absent : watched p.watch c.args.client ≡ None = sym c.get.ensures ∙ none_is c.get.result (sym c.if-is_some.ensures) in
@@ -25,5 +25,10 @@ returns-clause-ok c =
     fewer_fit _ (length p.watch + 1) c.take.new.self taken (omega (arith, clients.1, len)) in
     let watch : q.watch ≡ joined p.watch c.args.client = not_err c.join.result (sym c.if-is_err.ensures.value) c.join.ensures.ok in
     subst (λ (o : Option Watched). Does (connects_client c.args.client (state_of p) o) q h) (sym absent)
-    (does_but (connects_client c.args.client (state_of p) None) q h but (λ i. record { machine = p.machine; clients = watch i })
+    (does_but (connects_client c.args.client (state_of p) None) q h but (λ i. record {
+      machine = p.machine;
+      clients = watch i;
+      masks =
+          c.forget.ensures.items i;
+    })
     refl refl refl refl refl (joined_ready p q c.args.client c.take.new.self fits watch refl))

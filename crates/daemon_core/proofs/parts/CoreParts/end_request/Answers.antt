@@ -4,18 +4,19 @@ use Rattle.daemon_core.proofs.EndLaws.{ends_so, ready_left}
 use Rattle.daemon_core.proofs.parts.CoreParts.end_request.Goals as goal
 
 pub returns-in-Answered : goal.returns-in-Answered
-returns-in-Answered c = ends_so c.args.client c.args.self.now c.args.self.now c.args.work c.args.end _ Answered c.in-Answered.is (record {
-  state = refl;
-  answer = search rules;
-  closes = search rules;
-  ops = refl;
-  refused_at = refl;
-  looks = refl;
-  ended = refl;
-  changed = refl;
-  one = search rules;
-  ready = c.requires.ready;
-})
+returns-in-Answered c = ends_so c.args.client c.args.self.now (record c.args.self.now { masks = c.set.new.self }) c.args.work c.args.end _
+    Answered c.in-Answered.is (record {
+      state = λ i. record { machine = c.args.self.now.machine; clients = c.args.self.now.watch; masks = c.set.ensures i };
+      answer = search rules;
+      closes = search rules;
+      ops = refl;
+      refused_at = refl;
+      looks = refl;
+      ended = refl;
+      changed = refl;
+      one = search rules;
+      ready = c.requires.ready;
+    })
 
 pub returns-in-Closed : goal.returns-in-Closed
 returns-in-Closed c = ends_so c.args.client c.args.self.now c.leave.new.self c.args.work c.args.end _ Closed c.in-Closed.is (record {

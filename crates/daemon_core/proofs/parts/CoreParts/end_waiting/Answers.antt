@@ -15,13 +15,18 @@ use Rattle.daemon_core.proofs.parts.CoreParts.end_waiting.Goals as goal
 pub returns-else-is_err-clause-ok : goal.returns-else-is_err-clause-ok
 returns-else-is_err-clause-ok c =
     let p : CoreParts = c.args.self.now in
-    let q : CoreParts = record { machine = p.machine; watch = c.cancel.new.self; room = p.room } in
+    let q : CoreParts = record { machine = p.machine; watch = c.cancel.new.self; masks = p.masks; room = p.room } in
     let h = c.in_ok-handled.handled in
     let but = subst (λ (b : List ℕ). IsNothingBut (output c.args.client b ∷ []) [] h) c.in_ok-ok.ensures c.in_ok-handled.ensures in
     let watch : q.watch ≡ with_waiting p.watch c.args.client None =
     so_ok c.cancel.result (c.cancel.ensures.found.1 c.requires.known) c.cancel.ensures.ok in
     subst (λ (b : Bool). Does (waits_no_more b c.args.client (state_of p)) q h) (sym c.if-is_noidle.true)
-    (does_but (waits_no_more true c.args.client (state_of p)) q h but (λ i. record { machine = p.machine; clients = watch i })
+    (does_but (waits_no_more true c.args.client (state_of p)) q h but (λ i. record {
+      machine = p.machine;
+      clients = watch i;
+      masks =
+          p.masks.list.items;
+    })
     refl refl refl refl refl (waiting_ready p q c.args.client None c.requires.ready watch refl))
 
 pub returns-else-is_noidle-clause-ok : goal.returns-else-is_noidle-clause-ok
@@ -31,7 +36,7 @@ returns-else-is_noidle-clause-ok c =
     let left = c.leave.ensures in
     subst (λ (b : Bool). Does (waits_no_more b c.args.client (state_of p)) q c.closing.result) (sym c.if-is_noidle.false)
     (does_but (waits_no_more false c.args.client (state_of p)) q c.closing.result c.closing.ensures
-    (λ i. record { machine = left.machine i; clients = left.watch i })
+    (λ i. record { machine = left.machine i; clients = left.watch i; masks = left.masks i })
     refl refl refl refl refl (ready_left p q c.args.client c.requires.ready left.watch
     (subst (λ (r : Room). KeepsRoom p.room r) (sym left.room) c.give_closes-closes.ensures.kept)))
 

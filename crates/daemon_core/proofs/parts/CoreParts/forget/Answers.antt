@@ -7,5 +7,6 @@ use Rattle.daemon_core.proofs.parts.CoreParts.forget.Goals as goal
 pub returns : goal.returns
 returns c =
     does_but (nothing (without c.args.client (state_of c.args.self.now))) c.leave.new.self c.nothing.result c.nothing.ensures
-    (λ i. record { machine = c.leave.ensures.machine i; clients = c.leave.ensures.watch i }) refl refl refl refl refl
+    (λ i. record { machine = c.leave.ensures.machine i; clients = c.leave.ensures.watch i; masks = c.leave.ensures.masks i }) refl refl
+    refl refl refl
     (left_ready c.args.self.now c.leave.new.self c.args.client c.requires c.leave.ensures.watch c.leave.ensures.room)

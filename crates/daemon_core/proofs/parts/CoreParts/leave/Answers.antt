@@ -1,6 +1,19 @@
+use Rattle.std.proofs.Common.{is_ok, sym, ap, ◌∙◌}
+use Rattle.std.proofs.lemmas.Bool.{false≢true}
 use Rattle.daemon_core.proofs.RoomLaws.{left_so}
+use Rattle.daemon_core.proofs.SeenLaws.{masks_left, masks_stay}
 use Rattle.daemon_core.proofs.parts.CoreParts.leave.Goals as goal
 
 pub returns-in-Err-clause-watch : goal.returns-in-Err-clause-watch
 returns-in-Err-clause-watch c =
     left_so c.leave.result c.args.self.now.watch c.leave.new.self c.args.client c.leave.ensures.ok c.leave.ensures.err c.leave.ensures.found
+
+pub returns-in-Ok-clause-masks : goal.returns-in-Ok-clause-masks
+returns-in-Ok-clause-masks c =
+    c.forget.ensures.items
+    ∙ sym (masks_left _ c.args.self.now.masks.list.items c.args.client (c.leave.ensures.found.0 (ap is_ok c.in-Ok.is)))
+
+pub returns-in-Err-clause-masks : goal.returns-in-Err-clause-masks
+returns-in-Err-clause-masks c =
+    sym (masks_stay _ c.args.self.now.masks.list.items c.args.client
+    (λ some. false≢true (sym (ap is_ok c.in-Err.is) ∙ c.leave.ensures.found.1 some)))

@@ -13,6 +13,6 @@ returns c =
     let m = c.args.self.now in
     let search = c.args.search.now in
     let songs = c.songs-songs.ensures ∙ ap (λ (n : MachineState). n.saved.songs) c.self.view_is in
-    finds _ _ m _ c.args.work.now _ c.keep.new.self _ _ (find_means m search) c.len-mark.ensures refl refl
-    (writes_same _ _ _ _ _ c.write_by_uri-written.ensures (ap (λ rows. flat_map song_lines (found Named search rows)) songs
-    ∙ ap (λ profile. flat_map song_lines (found profile search m.saved.songs)) (sym c.requires.named))) c.keep.ensures
+    finds _ _ m _ c.args.work.now _ c.keep.new.self _ _ (find_means c.args.mask m search) c.len-mark.ensures refl refl
+    (writes_same _ _ _ _ _ c.write_by_uri-written.ensures (ap (λ rows. flat_map (song_lines c.args.mask) (found Named search rows)) songs
+    ∙ ap (λ profile. flat_map (song_lines c.args.mask) (found profile search m.saved.songs)) (sym c.requires.named))) c.keep.ensures

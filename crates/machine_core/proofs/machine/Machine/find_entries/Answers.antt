@@ -14,5 +14,6 @@ returns c =
     let songs = c.songs-songs.ensures ∙ ap (λ (n : MachineState). n.saved.songs) c.self.view_is in
     let entries = c.entries-entries.ensures.entries
     ∙ ap (λ (q : QueueState). q.entries) (c.queue.ensures ∙ ap (λ (n : MachineState). n.saved.queue) c.self.view_is) in
-    finds _ _ m _ c.args.work.now _ c.keep.new.self _ _ (entries_mean m case tree) c.len-mark.ensures refl refl
-    (writes_same _ _ _ _ _ c.write_entries-written.ensures (λ i. entries_found case tree (songs i) 0 (entries i))) c.keep.ensures
+    finds _ _ m _ c.args.work.now _ c.keep.new.self _ _ (entries_mean c.args.mask m case tree) c.len-mark.ensures refl refl
+    (writes_same _ _ _ _ _ c.write_entries-written.ensures (λ i. entries_found c.args.mask case tree (songs i) 0
+    (entries i))) c.keep.ensures

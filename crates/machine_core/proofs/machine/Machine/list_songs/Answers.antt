@@ -14,7 +14,7 @@ returns-in_err-songs c =
     let m = c.args.self.now in
     let name = c.args.name.now in
     let lists : c.lists.result.now ≡ m.saved.lists = c.lists.ensures ∙ ap (λ (n : MachineState). n.saved.lists) c.self.view_is in
-    not_found (songs_named m.saved.lists name) (λ songs. says (flat_map (song_info m.saved.songs) songs) m) m c.args.work.now
+    not_found (songs_named m.saved.lists name) (λ songs. says (flat_map (song_info c.args.mask m.saved.songs) songs) m) m c.args.work.now
     c.in_err-songs.field-0.0 c.from_residual.result
     (subst (λ all. IsNotFound (songs_named all name) c.in_err-songs.field-0.0) lists c.in_err-songs.ensures.refused)
     c.from_residual.ensures.1
@@ -28,7 +28,8 @@ returns c =
     let rows : c.songs.result.now ≡ m.saved.songs = c.songs.ensures ∙ ap (λ (n : MachineState). n.saved.songs) c.self.view_is in
     let is : songs_named m.saved.lists name ≡ Ok c.in_ok-songs.songs.now =
     ap (λ all. songs_named all name) (sym lists) ∙ c.in_ok-songs.ensures.songs in
-    reads _ (flat_map (song_info c.songs.result.now) c.as_slice.result.now) m m _ c.args.work.now _ c.keep.new.self _ _
-    (found (songs_named m.saved.lists name) (λ songs. says (flat_map (song_info m.saved.songs) songs) m) c.in_ok-songs.songs.now is
-    ∙ (λ i. says (flat_map (song_info (sym rows i)) (sym c.as_slice.ensures i)) m))
+    reads _ (flat_map (song_info c.args.mask c.songs.result.now) c.as_slice.result.now) m m _ c.args.work.now _ c.keep.new.self _ _
+    (found (songs_named m.saved.lists name) (λ songs. says (flat_map (song_info c.args.mask m.saved.songs) songs) m)
+    c.in_ok-songs.songs.now is
+    ∙ (λ i. says (flat_map (song_info c.args.mask (sym rows i)) (sym c.as_slice.ensures i)) m))
     refl c.len-mark.ensures refl refl c.write_song_infos-written.ensures c.keep.ensures

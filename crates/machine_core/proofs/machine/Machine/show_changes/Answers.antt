@@ -16,7 +16,7 @@ returns c =
     let queue = c.queue.ensures ∙ ap (λ (n : MachineState). n.saved.queue) c.self.view_is in
     let changed = c.in_ok-positions.ensures ∙ ap (λ (q : QueueState). changed_in q c.args.version span) queue in
     reads _ _ m m _ c.args.work.now _ c.keep.new.self _ _
-    (changes_shown c.args.version c.args.range m span (sym c.in_ok-span.ensures)) refl c.len-mark.ensures refl refl
+    (changes_shown c.args.mask c.args.version c.args.range m span (sym c.in_ok-span.ensures)) refl c.len-mark.ensures refl refl
     (adds_same _ _ _ _ _ c.write_positions-written.ensures
-    (ap (λ (n : MachineState). flat_map (position_info n.saved) c.deref.result.now) c.self.view_is
-    ∙ ap (flat_map (position_info m.saved)) (c.deref.ensures.value ∙ changed))) c.keep.ensures
+    (ap (λ (n : MachineState). flat_map (position_info c.args.mask n.saved) c.deref.result.now) c.self.view_is
+    ∙ ap (flat_map (position_info c.args.mask m.saved)) (c.deref.ensures.value ∙ changed))) c.keep.ensures

@@ -10,6 +10,6 @@ pub returns : goal.returns
 returns c =
     let m = c.args.self.now in
     reads _ _ m m _ c.args.work.now _ c.keep.new.self _ _
-    (id_shown c.args.id m c.in_ok-at.at (sym c.in_ok-at.ensures.place)) refl c.len-mark.ensures refl refl
+    (id_shown c.args.mask c.args.id m c.in_ok-at.at (sym c.in_ok-at.ensures.place)) refl c.len-mark.ensures refl refl
     (adds_same _ _ _ _ _ c.write_position-written.ensures
-    (ap (λ (n : MachineState). position_info n.saved c.in_ok-at.at) c.self.view_is)) c.keep.ensures
+    (ap (λ (n : MachineState). position_info c.args.mask n.saved c.in_ok-at.at) c.self.view_is)) c.keep.ensures

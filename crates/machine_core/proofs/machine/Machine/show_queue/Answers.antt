@@ -12,7 +12,7 @@ pub returns : goal.returns
 returns c =
     let m = c.args.self.now in
     reads _ _ m m _ c.args.work.now _ c.keep.new.self _ _
-    (queue_shown m c.queue_length.result c.queue_length.ensures) refl c.len-mark.ensures refl refl
+    (queue_shown c.args.mask m c.queue_length.result c.queue_length.ensures) refl c.len-mark.ensures refl refl
     (adds_same _ _ _ _ _ c.write_span-written.ensures
-    (ap (λ (n : MachineState). flat_map (position_info n.saved) (positions_in (whole c.queue_length.result))) c.self.view_is))
+    (ap (λ (n : MachineState). flat_map (position_info c.args.mask n.saved) (positions_in (whole c.queue_length.result))) c.self.view_is))
     c.keep.ensures

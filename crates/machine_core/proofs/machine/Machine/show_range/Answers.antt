@@ -12,6 +12,7 @@ pub returns : goal.returns
 returns c =
     let m = c.args.self.now in
     reads _ _ m m _ c.args.work.now _ c.keep.new.self _ _
-    (range_shown c.args.range m c.in_ok-span.span (sym c.in_ok-span.ensures)) refl c.len-mark.ensures refl refl
+    (range_shown c.args.mask c.args.range m c.in_ok-span.span (sym c.in_ok-span.ensures)) refl c.len-mark.ensures refl refl
     (adds_same _ _ _ _ _ c.write_span-written.ensures
-    (ap (λ (n : MachineState). flat_map (position_info n.saved) (positions_in c.in_ok-span.span)) c.self.view_is)) c.keep.ensures
+    (ap (λ (n : MachineState). flat_map (position_info c.args.mask n.saved) (positions_in c.in_ok-span.span)) c.self.view_is))
+    c.keep.ensures

@@ -11,7 +11,7 @@ pub returns-in-Folded : goal.returns-in-Folded
 returns-in-Folded c =
     let search = c.args.search.now in
     let rows = c.rows.result.now in
-    writes_same _ _ _ _ _ c.write_matching.ensures (ap (flat_map song_lines)
+    writes_same _ _ _ _ _ c.write_matching.ensures (ap (flat_map (song_lines c.args.mask))
     (found_by_uri search c.of_window-part.result rows c.requires
     (λ some few. c.of_window-part.ensures some (omega (arith, few, c.len.ensures.count, ap length c.rows.ensures.rows)))
     ∙ ap (found Named search) c.rows.ensures.rows))

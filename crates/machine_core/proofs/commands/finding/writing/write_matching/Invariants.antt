@@ -7,5 +7,5 @@ use Rattle.machine_core.proofs.commands.finding.writing.write_matching.Given as 
 
 abbrev pub invariant-loop-row : goal.invariant-loop-row
 invariant-loop-row l =
-    Remains (flat_map song_lines (part_of l.fn.part (matching l.case l.filter l.rows)))
-    (flat_map song_lines (part_of l.part (matching l.case l.filter (drop l.row-index l.rows)))) l.fn.out l.out
+    Remains (flat_map (song_lines l.mask) (part_of l.fn.part (matching l.case l.filter l.rows)))
+    (flat_map (song_lines l.mask) (part_of l.part (matching l.case l.filter (drop l.row-index l.rows)))) l.fn.out l.out

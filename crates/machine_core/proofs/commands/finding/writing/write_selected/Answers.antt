@@ -13,6 +13,6 @@ returns-in_err-found c = writes_no_more _ c.from_residual.result c.args.out.now 
 pub returns : goal.returns
 returns c =
     let search = c.args.search.now in
-    of_adds _ _ _ _ (adds_same _ _ _ _ _ c.write_songs.ensures (ap (flat_map song_lines) (c.windowed.ensures.rows
+    of_adds _ _ _ _ (adds_same _ _ _ _ _ c.write_songs.ensures (ap (flat_map (song_lines c.args.mask)) (c.windowed.ensures.rows
     ∙ ap (λ items. in_window search.window (map (λ row. row.now) items)) c.deref.ensures.value
     ∙ ap (in_window search.window) c.in_ok-found.ensures.found ∙ matching_found search c.args.songs.now c.requires)))
