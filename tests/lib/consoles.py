@@ -6,7 +6,7 @@ import sys
 import time
 
 from layouts import LAYOUT_AT, body
-from scripts import configuration
+from scripts import configuration, write
 
 GREETING = b"OK MPD 0.23.0\n"
 # A checkpoint is made before the next event where so many records stand in the journal's file.
@@ -83,8 +83,7 @@ class Console:
             return next(int(line.split()[1]) for line in status if line.startswith("VmHWM:"))
 
     def forget_peak(self):
-        with open(f"/proc/{self.process.pid}/clear_refs", "w", encoding="utf-8") as file:
-            file.write("5")
+        write(f"/proc/{self.process.pid}/clear_refs", "5")
 
     def end(self):
         self.process.stdin.close()
@@ -122,8 +121,7 @@ def configure(folder, music):
     """Writes a configuration with journal files `a` and `b` in a folder, which is made, and gives its path."""
     os.makedirs(folder)
     config = os.path.join(folder, "mpd_daemon.toml")
-    with open(config, "w", encoding="utf-8") as file:
-        file.write(configuration([f"music={music}", f"journal_a={folder}/a", f"journal_b={folder}/b"]))
+    write(config, configuration([f"music={music}", f"journal_a={folder}/a", f"journal_b={folder}/b"]))
     return config
 
 

@@ -1,30 +1,17 @@
-"""Running daemons, and clients on their sockets. Each wait has a limit, at which the test fails; nothing else depends on time."""
+"""Running daemons and consoles, each in a folder of its own, and what rows ask of them."""
 
 import contextlib
 import os
 import resource
 import signal
 import socket
-import struct
 import subprocess
 import threading
-import time
 
-import under
-from scripts import Failure, configuration
-
-GREETING = b"OK MPD 0.23.0\n"
-# How many seconds a wait lasts at most, however slow the machine is.
-LIMIT = under.seconds(60)
-
-
-def wait_for(what, is_there, seconds=LIMIT):
-    """Looks again and again; fails at the limit."""
-    end = time.monotonic() + seconds
-    while not is_there():
-        if time.monotonic() > end:
-            raise Failure(f"waited in vain: {what}")
-        time.sleep(0.002)
+from clients import LIMIT, Client, Console, wait_for
+from consoles import Journal
+from scripts import Failure, configuration, write
+from waves import wave_of
 
 
 @contextlib.contextmanager
@@ -44,78 +31,9 @@ def free_port(host="127.0.0.1"):
         return bound.getsockname()[1]
 
 
-class Client:
-    """A connection. It reads the greeting first, unless told otherwise."""
-
-    def __init__(self, address, greeted=True):
-        self.socket = socket.socket(family_of(address))
-        self.socket.settimeout(LIMIT)
-        self.socket.connect(address)
-        self.unread = b""
-        if greeted and self.line() != GREETING[:-1]:
-            raise Failure("no greeting")
-
-    def __enter__(self):
-        return self
-
-    def __exit__(self, *_):
-        self.socket.close()
-
-    def send(self, text):
-        self.socket.sendall(text if isinstance(text, bytes) else text.encode())
-
-    def line(self):
-        """The next line, without its newline; None where the connection has ended."""
-        while b"\n" not in self.unread:
-            try:
-                piece = self.socket.recv(1 << 16)
-            except ConnectionResetError:
-                piece = b""
-            except TimeoutError as fault:
-                raise Failure(f"no line within {LIMIT} seconds behind {self.unread[:80]}") from fault
-            if not piece:
-                return None
-            self.unread += piece
-        line, _, self.unread = self.unread.partition(b"\n")
-        return line
-
-    def answer(self):
-        """The lines of an answer, the last one too."""
-        lines = []
-        while True:
-            line = self.line()
-            if line is None:
-                raise Failure(f"the connection ended behind {lines[-3:]}")
-            lines.append(line.decode())
-            if line == b"OK" or line.startswith(b"ACK "):
-                return lines
-
-    def ask(self, request):
-        self.send(request + "\n")
-        return self.answer()
-
-    def do(self, *requests):
-        """Sends requests that must be answered by OK alone, or by lines before it."""
-        for request in requests:
-            lines = self.ask(request)
-            if lines[-1] != "OK":
-                raise Failure(f"{request}: {lines[-1]}")
-
-    def value(self, request, key):
-        """The value of the first line of this key in the answer; None where there is none."""
-        return next((it[len(key) + 2 :] for it in self.ask(request) if it.startswith(key + ": ")), None)
-
-    def is_ended(self):
-        """Whether nothing more comes; what was on its way is lost."""
-        while self.line() is not None:
-            pass
-        return not self.unread
-
-
-def family_of(address):
-    if isinstance(address, str):
-        return socket.AF_UNIX
-    return socket.AF_INET6 if ":" in address[0] else socket.AF_INET
+def ran(*words, **how):
+    """A program that has ended, with what it wrote."""
+    return subprocess.run(words, **{"capture_output": True, "timeout": LIMIT, "check": False, **how})
 
 
 class Daemon:
@@ -131,18 +49,27 @@ class Daemon:
         self.process, self.lines, self.listening = None, [], None
 
     def write(self):
-        with open(f"{self.folder}/c.toml", "w", encoding="utf-8") as file:
-            file.write(configuration([f"{key}={value}" for key, value in self.settings.items() if value]))
+        write(f"{self.folder}/c.toml", configuration([f"{key}={value}" for key, value in self.settings.items() if value]))
+
+    def ran(self, *words, **how):
+        """The program at a task over its configuration, once that has ended."""
+        return ran(self.program, *words, "c.toml", cwd=self.folder, **how)
 
     def create(self):
-        done = subprocess.run([self.program, "create", "c.toml"], cwd=self.folder, capture_output=True, timeout=LIMIT, check=False)
+        done = self.ran("create")
         if done.returncode or done.stdout != b"created\n":
             raise Failure(f"create: {done}")
         return self
 
-    def start(self, limits=(), stdout=subprocess.DEVNULL, stderr=subprocess.PIPE, settings=None, ended_by=()):
-        """Starts it, and waits until it listens; limits are pairs for setrlimit, settings what its environment has more. What it writes
-        to another standard error than a pipe of its own isn't taken. These signals end it too, as in a shell."""
+    def start(self, *limits, **how):
+        """Begins it, and waits until it listens."""
+        self.begin(*limits, **how)
+        wait_for("a daemon that listens", self.is_listening)
+        return self
+
+    def begin(self, limits=(), stdout=subprocess.DEVNULL, stderr=subprocess.PIPE, settings=None, ended_by=()):
+        """Limits are pairs for setrlimit, settings what its environment has more. What it writes to another standard error than a pipe of
+        its own isn't taken. These signals end it too, as in a shell."""
 
         def limit():
             # Signals end it, also where the test was begun by `nohup`.
@@ -156,8 +83,6 @@ class Daemon:
         self.process = subprocess.Popen([self.program, "serve", "c.toml"], preexec_fn=limit, **how)
         self.listening = threading.Thread(target=self.listen, args=(self.process.stderr or contextlib.nullcontext(),))
         self.listening.start()
-        wait_for("a daemon that listens", self.is_listening)
-        return self
 
     def listen(self, stream):
         """Takes what it writes to standard error."""
@@ -173,6 +98,13 @@ class Daemon:
         except OSError:
             return False
         return True
+
+    def console(self, greeted=True, settings=None, **how):
+        """A client of a console in its place."""
+        return Console(self.program, "c.toml", greeted, cwd=self.folder, env={**os.environ, **(settings or {})}, **how)
+
+    def journal(self):
+        return Journal(f"{self.folder}/a", f"{self.folder}/b")
 
     def client(self, **how):
         return Client(self.path, **how)
@@ -202,40 +134,27 @@ class Daemon:
             self.process.wait()
 
 
-def refused(program, folder, settings, status, lines, prepared=()):
+def serving(program, folder, **settings):
+    """A daemon over a new journal."""
+    return Daemon(program, folder, **settings).create().start()
+
+
+def refused(program, folder, settings, status, lines):
     """A start that must fail so, with these last lines on standard error."""
-    daemon = Daemon(program, folder, **settings)
-    for prepare in prepared:
-        prepare(daemon)
-    done = subprocess.run([program, "serve", "c.toml"], cwd=folder, capture_output=True, timeout=LIMIT, check=False)
+    done = Daemon(program, folder, **settings).ran("serve")
     said = done.stderr.decode().splitlines()
     if done.returncode != status or said[len(said) - len(lines) :] != list(lines):
         raise Failure(f"{settings}: status {done.returncode}, {said}; wanted {status}, {lines}")
 
 
-def samples(values):
-    return struct.pack(f"<{len(values)}h", *values)
-
-
-def wave_of(values, rate=8000, channels=1):
-    """The bytes of a WAVE file of these samples."""
-    form = struct.pack("<HHIIHH", 1, channels, rate, rate * 2 * channels, 2 * channels, 16)
-    data = samples(values)
-    parts = b"fmt " + struct.pack("<I", len(form)) + form + b"data" + struct.pack("<I", len(data)) + data
-    return b"RIFF" + struct.pack("<I", len(parts) + 4) + b"WAVE" + parts
-
-
 def put_song(daemon, name, values, **how):
-    path = os.path.join(daemon.folder, "music", name)
-    os.makedirs(os.path.dirname(path), exist_ok=True)
-    with open(path, "wb") as file:
-        file.write(wave_of(values, **how))
+    write(f"{daemon.folder}/music/{name}", wave_of(values, **how))
 
 
 def update(client):
     """Has the music read, and waits until it is."""
     client.do("update")
-    wait_for("the end of the scan", lambda: client.value("status", "updating_db") is None)
+    client.settle()
 
 
 def check(what, found, wanted):

@@ -8,15 +8,16 @@ import struct
 import threading
 import time
 
-from daemons import Daemon, check, put_song, update, wait_for, wave_of
-from music_rows import WORDS, id3, lines_of, pcm
-from scripts import chunk
+from daemons import Daemon, check, put_song, update, wait_for
+from music_rows import WORDS, id3, lines_of
+from scripts import write
 from sounds import LONG, Recorded, Song, check_front, pieces_of, play_to_the_end, runs_of, sound_of
+from waves import chunk, wave_of
 
 OK, NOT_A_SONG, FAILED = 0, 1, 2
 OPEN, READ = 1, 2
 SONG, TITLE = Song("d/a.mp3", 44_100, 1, WORDS), ["Title: Dawn"]
-WAVE = pcm(WORDS, 16, 44_100, more=chunk("id3 ", id3(TIT2="Dawn")))
+WAVE = wave_of(WORDS, 44_100, more=chunk("id3 ", id3(TIT2="Dawn")))
 PLAIN = Song("z.wav", 8_000, 1, WORDS[:900])
 # A song in which a decoder fails behind so many bytes of its WAVE file.
 HEARD, BEHIND = LONG._replace(name="long.mp3"), 100_000
@@ -97,20 +98,17 @@ def answer(kind, body, wave):
 
 def put(daemon, name):
     """A file of the music that only a decoder knows."""
-    path = f"{daemon.folder}/music/{name}"
-    os.makedirs(os.path.dirname(path), exist_ok=True)
-    with open(path, "wb") as file:
-        file.write(b"ID3, and nothing that is a WAVE file")
+    write(f"{daemon.folder}/music/{name}", "ID3, and nothing that is a WAVE file")
 
 
-def decoded(program, folder):
-    """A daemon over a decoder, and its music: a song that the decoder tells, a file that it knows as none, and a WAVE file."""
+def decoded(program, folder, *names):
+    """A daemon over a decoder, and its music: a song that the decoder tells, a file that it knows as none, a WAVE file, and files of these
+    names."""
     os.makedirs(folder)
     os.mkfifo(f"{folder}/sound")
     daemon = Daemon(program, folder, decoder="decoder", form="wave", **{"formats:": '["wave","flac"]', "debug:": "true"}).create()
-    put(daemon, SONG.name)
-    put(daemon, "d/b.opus")
-    put(daemon, "note.txt")
+    for it in (SONG.name, "d/b.opus", "note.txt", *names):
+        put(daemon, it)
     put_song(daemon, PLAIN.name, PLAIN.values)
     return daemon, Decoder(f"{folder}/decoder", {SONG.name: WAVE})
 
@@ -170,7 +168,7 @@ def failing(program, folder, kind):
             begun = time.monotonic()
             other.do("ping", "status")
             check(f"{what}: at once", time.monotonic() - begun < 1, True)
-            wait_for("the end of the job", lambda: client.value("status", "updating_db") is None)
+            client.settle()
             check_songs(client, [(SONG, TITLE), (PLAIN, [])])
             check(f"{what}: the sticker", client.ask(f"sticker get song {SONG.name} k"), ["sticker: k=v", "OK"])
             wait_for("its line", lambda number=number: any(f"update {number}: " in it for it in daemon.lines))
@@ -204,8 +202,7 @@ def decoder_that_reads_nothing(program, folder):
 def decoder_that_fails_in_a_song(program, folder):
     """However it fails behind some of a song's samples, those before it are heard, the song stops with an error, others play, and so does
     the song once the decoder is well."""
-    daemon, decoder = decoded(program, folder)
-    put(daemon, HEARD.name)
+    daemon, decoder = decoded(program, folder, HEARD.name)
     decoder.songs[HEARD.name] = wave_of(HEARD.values, HEARD.rate, HEARD.channels)
     faults = {what: done for what, (kind, done, _) in FAULTS.items() if kind == READ}
     with daemon.start(), daemon.client() as client:
@@ -242,18 +239,9 @@ def decoder_that_lies(program, folder):
         for wave in (bytes(len(WAVE)), WAVE[:22] + b"\xff\xff" + WAVE[24:], WAVE[:24] + bytes(4) + WAVE[28:], b"RIFF"):
             decoder.songs[SONG.name] = wave
             client.do("rescan")
-            wait_for("the end of the job", lambda: client.value("status", "updating_db") is None)
+            client.settle()
             check_songs(client, [(PLAIN, [])])
         decoder.songs[SONG.name] = WAVE
         client.do("rescan")
-        wait_for("the end of the job", lambda: client.value("status", "updating_db") is None)
+        client.settle()
         check_songs(client, [(SONG, TITLE), (PLAIN, [])])
-
-
-ROWS = [
-    songs_of_a_decoder,
-    decoder_that_opens_nothing,
-    decoder_that_reads_nothing,
-    decoder_that_fails_in_a_song,
-    decoder_that_lies,
-]

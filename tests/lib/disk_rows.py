@@ -48,7 +48,7 @@ class Slow:
             change(f"{self.folder}/{file.read()}")
         for name in "waiting", "wait":
             os.remove(f"{self.folder}/{name}")
-        wait_for("the end of the job", lambda: self.client.value("status", "updating_db") is None)
+        self.client.settle()
 
     def move(self, path, other):
         os.rename(f"{self.folder}/{path}", f"{self.folder}/{other}")
@@ -124,6 +124,3 @@ def songs_removed_in_a_listing(program, folder):
             left.remove(os.path.relpath(removed[0], f"{folder}/music"))
             slow.knows(left)
             slow.tells(job, tally(len(left), 1, 0, 0))
-
-
-ROWS = [disk_goes_in_a_listing, disk_behind_a_link_goes, folder_replaced_in_a_listing, songs_removed_in_a_listing]

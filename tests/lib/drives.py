@@ -188,8 +188,7 @@ def filled(files, left, volume, folder):
     """The two files of a journal, with records behind those that stand until so many are left before a checkpoint."""
     paths = [f"{folder}/.{it}" for it in "ab"]
     for path, content in zip(paths, files):
-        with open(path, "wb") as file:
-            file.write(content)
+        scripts.write(path, content)
     consoles.Journal(*paths).fill(left, volume)
     found = []
     for path in paths:

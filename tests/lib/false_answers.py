@@ -2,7 +2,7 @@
 
 Of each, whatever the daemon says: the translator goes on; what it gives and asks are whole lines; it asks for what the client sent, or for
 what it puts in the place of that; no answer brings more requests than it has ends; and cut anywhere it gives and asks the same. Where the
-daemon's answers have the form of answers, and nothing is asked step by step by groups, it asks and gives what lib/translator.py does."""
+daemon's answers have the form of answers it asks and gives what lib/translator.py does."""
 
 import random
 
@@ -210,16 +210,14 @@ class Conversation:
         # What the daemon was asked and has not answered; how many requests it was asked, and all that it said.
         self.requests, self.due, self.count, self.said = Requests(), [], 0, b""
         # The same of the plain translator, where what it gives is compared.
-        is_compared = self.is_honest and b"group" not in self.asked.lower()
-        self.plain = Translator(is_wide=True) if is_compared else None
+        self.plain = Translator(is_wide=True) if self.is_honest else None
         self.plain_requests, self.plain_due, self.plain_given = Requests(), [], b""
 
     def client(self):
-        """What the client sends; of groups more than any client would ask for, or none."""
+        """What the client sends; or groups alone, more than any client would ask for."""
         draw, lines = self.draw, conversations.Lines(self.draw)
         if draw.random() < 0.7:
-            asked = conversations.conversation(draw).splitlines(keepends=True)
-            return b"".join(it for it in asked if not self.is_honest or b"group" not in it.lower())
+            return conversations.conversation(draw)
         found = ""
         for _ in range(draw.randint(1, 3)):
             words = lines.grouped(conversations.any_tag(draw), lines.filter() if draw.random() < 0.5 else [])

@@ -9,7 +9,8 @@ import stat
 import subprocess
 
 from daemons import LIMIT, Client, free_port, wait_for
-from scripts import Failure
+from scripts import Failure, write
+from scripts import read as content
 
 ROOT = os.path.dirname(os.path.dirname(os.path.dirname(os.path.abspath(__file__))))
 CONTRIB = f"{ROOT}/contrib"
@@ -92,15 +93,8 @@ class Service:
 
 
 def put(path, text, mode=0o644):
-    os.makedirs(os.path.dirname(path), exist_ok=True)
-    with open(path, "w", encoding="utf-8") as file:
-        file.write(text)
+    write(path, text)
     os.chmod(path, mode)
-
-
-def content(path):
-    with open(path, "rb") as file:
-        return file.read()
 
 
 def settings_of(unit):

@@ -1,9 +1,9 @@
 """A daemon with little memory: what it wrote under a limit of its address space it opens under the same one, and a checkpoint takes none."""
 
-import os
 import resource
 
-from consoles import Journal
+import under
+from clients import in_one_list
 from daemons import Daemon, check, limited, put_song, update
 
 # The limit, in bytes, and how many command lists are kept under it, which are longer together. For a thread's first allocation the C library
@@ -27,10 +27,6 @@ def values_of(number):
 def stickers_of(number):
     """Commands of one list, each of which sets a sticker of its own."""
     return [f"sticker set song a.wav name-{number}-{it} {'x' * LENGTH}" for it in range(COMMANDS)]
-
-
-def in_one_list(commands):
-    return "\n".join(["command_list_begin", *commands, "command_list_end"])
 
 
 def with_a_song(program, folder, limits=()):
@@ -70,7 +66,7 @@ def makes_a_checkpoint_without_memory(program, folder):
             for number in range(20):
                 client.do(in_one_list(stickers_of(number)))
         daemon.kill()
-        journal = Journal(f"{folder}/a", f"{folder}/b")
+        journal = daemon.journal()
         journal.fill(5, 40)
         was = journal.in_use()
         with daemon.start(), daemon.client() as client:
@@ -83,3 +79,11 @@ def makes_a_checkpoint_without_memory(program, folder):
         daemon.kill()
         with daemon.start(), daemon.client() as client:
             check("the volume", client.value("status", "volume"), "69")
+
+
+def left_out():
+    """The cases that can't be run here: by an emulator more memory is taken than these limits leave."""
+    found = [opens_what_it_wrote, makes_a_checkpoint_without_memory] if under.is_emulated() else []
+    for it in found:
+        print(f"{it.__name__}: not run: the emulator takes more memory than its limit leaves")
+    return found

@@ -10,7 +10,7 @@ import preload
 import under
 from consoles import RECORDS, Journal
 from daemons import Daemon, check, put_song, refused, update, wait_for
-from scripts import Failure
+from scripts import Failure, write
 
 RAMP = list(range(0, 4_000, 4))
 # A web of folders, each with so many links to the next: there are more ways through it than any job could go.
@@ -85,8 +85,7 @@ def job_in_the_log(program, folder):
         put_song(daemon, "stereo.wav", RAMP, channels=2)
         put_song(daemon, "four.wav", RAMP, channels=4)
         for name, content in (("text.wav", b"no song"), ("cut.wav", b"RIFF\0\0\0\0WAVE"), ("note.txt", b"")):
-            with open(f"{folder}/music/{name}", "wb") as file:
-                file.write(content)
+            write(f"{folder}/music/{name}", content)
         update(client)
         os.remove(f"{folder}/music/a.wav")
         os.symlink("nowhere", f"{folder}/music/x.wav")
@@ -96,7 +95,7 @@ def job_in_the_log(program, folder):
         put_song(daemon, "stereo.wav", RAMP[:100], channels=2)
         update(client)
         client.do("update d/b.wav")
-        wait_for("the end of the job", lambda: client.value("status", "updating_db") is None)
+        client.settle()
         os.remove(f"{folder}/music/d/b.wav")
         client.do("update d")
         wait_for("the line of the last job", lambda: len(told(daemon, "update ")) > 3)
@@ -118,12 +117,11 @@ def job_that_opens_what_changed(program, folder):
     with Daemon(program, folder, **{"stock_clients:": "true"}).create().start() as daemon, daemon.client() as client:
         for name in ("a.wav", "d/b.wav", "d/c.wav"):
             put_song(daemon, name, RAMP)
-        with open(f"{folder}/music/text.wav", "wb") as file:
-            file.write(b"no song")
+        write(f"{folder}/music/text.wav", b"no song")
         update(client)
         update(client)
         client.do("rescan")
-        wait_for("the end of the job", lambda: client.value("status", "updating_db") is None)
+        client.settle()
         os.remove(f"{folder}/music/d/b.wav")
         put_song(daemon, "a.wav", RAMP[:100])
         put_song(daemon, "new.wav", RAMP)
@@ -148,8 +146,7 @@ def files_left_out(program, folder):
         put_song(daemon, "d/four.wav", RAMP, channels=4)
         put_song(daemon, "fast.wav", RAMP, rate=192_001)
         for name, content in (("text.wav", b"no song"), ("cut.wav", b"RIFF\0\0\0\0WAVE"), ("note.txt", b"")):
-            with open(f"{folder}/music/{name}", "wb") as file:
-                file.write(content)
+            write(f"{folder}/music/{name}", content)
         update(client)
         wait_for("its line", lambda: told(daemon, "update 1: "))
         daemon.kill(signal.SIGTERM)
@@ -209,7 +206,7 @@ def job_without_memory(program, folder):
             refuse_later(counts, 300 + 601 * job)
             client.do(f"update {job}")
             wait_for("a refusal", lambda job=job: preload.counts(counts)[1] > job)
-            wait_for("the end of the job", lambda: client.value("status", "updating_db") is None)
+            client.settle()
             line = line_of(daemon, job + 1)
             if line and "memory ran out" in line:
                 ended.append(job)
@@ -218,7 +215,7 @@ def job_without_memory(program, folder):
                 check("songs that are known", (known(job), line and line.split()[2]), (songs, line and str(songs)))
         check("that some were the scan's", bool(ended), True)
         client.do(f"update {ended[0]}")
-        wait_for("the end of the job", lambda: client.value("status", "updating_db") is None)
+        client.settle()
         check("songs of the next job", known(ended[0]), songs)
         daemon.kill(signal.SIGTERM)
 
@@ -362,8 +359,7 @@ def version_told(program, folder):
 
     first = "mpd_daemon 0.1, protocol 0.23"
     check("alone", printed(), (0, [first], ""))
-    with open(f"{copy}.build", "w", encoding="utf-8") as file:
-        file.write("checked build of commit 1234\nmore\n")
+    write(f"{copy}.build", "checked build of commit 1234\nmore\n")
     told_beside = [f"{copy}.build: {it}" for it in ("checked build of commit 1234", "more")]
     check("with a note", printed(), (0, [first, *told_beside], ""))
 
@@ -388,7 +384,3 @@ def kill_where_a_folder_hangs(program, folder):
     with daemon.start(), daemon.client() as client:
         check("the volume", client.value("status", "volume"), "41")
         update(client)
-
-
-ROWS = [web_of_links, job_in_the_log, job_that_opens_what_changed, files_left_out, job_without_memory, full_batch_without_memory, many_unreadable]
-ROWS += [more_songs_than_fit, large_journal, journal_file_missing, version_told, kill_where_a_folder_hangs]

@@ -155,7 +155,7 @@ def random_word(key, stream, place):
 class State:
     """What is kept. A method named as a command makes its change, and gives its lines where it has some."""
 
-    # Whether it is that of a daemon with `stock_clients`: the lines of `readings` tell it.
+    # Whether it is that of a daemon with `stock_clients`: the lines of `readings` tell it, and the player goes on as MPD does.
     is_wide = False
 
     def __init__(self, songs, key):

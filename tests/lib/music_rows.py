@@ -4,16 +4,14 @@ The FLAC files of tests/data were made by `flac` 1.4.2 (-8 and -5) of samples th
 
 import os
 import shutil
-import struct
 
 from daemons import Daemon, check, put_song, update
-from scripts import chunk
+from scripts import read, write
 from sounds import Recorded, Song, check_front, pieces_of, play_to_the_end, runs_of, sound_of
+from waves import chunk, info, wave_of
 
 DATA = os.path.join(os.path.dirname(os.path.abspath(__file__)), "../data")
 ALL = {"formats:": '["wave","wave-pcm","flac"]', "form": "wave", "debug:": "true"}
-# The sub-format of PCM.
-PCM = bytes.fromhex("0100000000001000800000aa00389b71")
 
 
 def saw(count, step, bits):
@@ -25,15 +23,6 @@ def rounded(values, bits):
     """At 16 bits: to the nearest, a half up, cut at the end; fewer bits are moved up."""
     over = bits - 16
     return [min(32_767, (it + (1 << over - 1)) >> over) if over > 0 else it << -over for it in values]
-
-
-def pcm(values, bits, rate, is_extensible=False, more=b""):
-    """A WAVE file of one channel; 8 bits are unsigned."""
-    size = bits // 8
-    data = b"".join((it + 128).to_bytes(1, "little") if bits == 8 else it.to_bytes(size, "little", signed=True) for it in values)
-    form = struct.pack("<HHIIHH", 0xFFFE if is_extensible else 1, 1, rate, rate * size, size, bits)
-    form += struct.pack("<HHI", 22, bits, 4) + PCM if is_extensible else b""
-    return chunk("RIFF", b"WAVE" + chunk("fmt ", form) + chunk("data", data) + more)
 
 
 def safe(number):
@@ -66,23 +55,20 @@ SONGS = [
 def put_files(daemon):
     """The files, and two that are no songs."""
     music = f"{daemon.folder}/music"
-    with open(f"{DATA}/stereo_16.flac", "rb") as file:
-        stereo = file.read()
-    info = chunk("LIST", b"INFO" + chunk("INAM", b"Plain\0"))
+    stereo, plain = read(f"{DATA}/stereo_16.flac"), info(("INAM", "Plain"))
     put_song(daemon, "a.wav", WORDS)
     shutil.copy(f"{DATA}/mono_24.flac", f"{music}/f.FLAC")
     made = {
-        "b.wav": pcm(saw(6_000, 50_021, 24), 24, 44_100, more=info + chunk("id3 ", id3(TIT2="Other"))),
-        "c.wav": pcm(saw(5_000, 3, 8), 8, 48_000),
-        "d.wave": pcm(saw(7_000, 17_000_003, 32), 32, 96_000, is_extensible=True, more=chunk("id3 ", id3(TIT2="Tag", TPE1="Éric"))),
+        "b.wav": wave_of(saw(6_000, 50_021, 24), 44_100, bits=24, more=plain + chunk("id3 ", id3(TIT2="Other"))),
+        "c.wav": wave_of(saw(5_000, 3, 8), 48_000, bits=8),
+        "d.wave": wave_of(saw(7_000, 17_000_003, 32), 96_000, bits=32, mask=4, more=chunk("id3 ", id3(TIT2="Tag", TPE1="Éric"))),
         "e.flac": stereo,
         "g.flac": id3(TIT2="In front") + stereo,
         "cut.flac": stereo[:30],
         "h.wav": b"OggS" + bytes(60),
     }
     for name, content in made.items():
-        with open(f"{music}/{name}", "wb") as file:
-            file.write(content)
+        write(f"{music}/{name}", content)
 
 
 def lines_of(song, tags):
@@ -144,6 +130,3 @@ def formats_taken_back(program, folder):
             update(client)
             check_library(client, SONGS[:1])
             daemon.kill()
-
-
-ROWS = [other_forms, formats_taken_back]

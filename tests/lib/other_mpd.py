@@ -9,7 +9,7 @@ import subprocess
 import threading
 
 from daemons import LIMIT, Client, free_port, wait_for
-from scripts import Failure
+from scripts import Failure, write
 
 CONFIGURATION = """\
 music_directory "{0}/music"
@@ -36,8 +36,7 @@ class RealMpd:
         self.path, self.folder, self.port, self.process = path, folder, free_port(), None
         for it in ("music", "playlists"):
             os.makedirs(f"{folder}/{it}", exist_ok=True)
-        with open(f"{folder}/mpd.conf", "w", encoding="utf-8") as file:
-            file.write(CONFIGURATION.format(folder, self.port))
+        write(f"{folder}/mpd.conf", CONFIGURATION.format(folder, self.port))
 
     def __enter__(self):
         with open(f"{self.folder}/mpd.log", "wb") as log:

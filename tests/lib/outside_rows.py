@@ -13,6 +13,7 @@ import preload
 from consoles import Journal
 from daemons import LIMIT, Daemon, check, put_song, refused, update, wait_for
 from log_rows import EMPTIED, told
+from scripts import write
 
 RAMP = list(range(-20_000, 20_000, 4))
 # Lines of `debug` within a minute.
@@ -66,8 +67,7 @@ def terminal_that_nobody_reads(program, folder):
     """Standard error is a terminal that nobody reads: it holds neither clients nor the scan nor the end."""
     daemon = Daemon(program, folder, **{"debug:": "true"}).create()
     for number in range(900):
-        with open(f"{folder}/music/{number:03}{'n' * 190}.wav", "w", encoding="utf-8") as file:
-            file.write("no song")
+        write(f"{folder}/music/{number:03}{'n' * 190}.wav", "no song")
     master, terminal = os.openpty()
     with daemon.start(stderr=terminal):
         os.close(terminal)
@@ -199,11 +199,6 @@ def empty(path):
     return content
 
 
-def write(path, content):
-    with open(path, "wb") as file:
-        file.write(content)
-
-
 def journal_file_emptied(program, folder):
     """A journal file has lost its bytes, as a copy on a full disk. What a crash may have left is served; where it was the file in use, a
     start is refused, and where it wasn't, it is served with a line."""
@@ -281,8 +276,3 @@ def file_with_a_hole(program, folder):
         resource.setrlimit(resource.RLIMIT_AS, (1 << 30, 1 << 30))
 
     check("look", run(program, folder, "look", "c.toml", preexec_fn=limit), wanted)
-
-
-ROWS = [modes_of_its_files, two_daemons_at_one_pipe, terminal_that_nobody_reads, files_of_a_limited_length]
-ROWS += [streams_of_a_limited_length, few_descriptors, debug_within_a_minute, scan_that_stands_in_a_call, slow_disk]
-ROWS += [journal_file_emptied, damaged_record, file_with_a_hole]

@@ -19,7 +19,7 @@ class Player(readings.Readable):
     def begin(self):
         """What plays behind a start."""
         self.state, self.current, self.ticket, self.frame = STOP, None, 0, 0
-        self.played, self.error, self.jobs, self.job = [], None, 0, None
+        self.played, self.error, self.jobs, self.job, self.failures = [], None, 0, None, 0
 
     def restarted(self):
         """What is found behind a restart."""
@@ -55,10 +55,19 @@ class Player(readings.Readable):
 
     def after_the_end(self):
         """What the end of the current song would start, and whether a random round begins with it; none where it would stop."""
-        if self.settings["single"] != "0":
-            stays = self.is_on("repeat") and not self.is_on("consume")
+        stays = self.is_on("single") and self.is_on("repeat") and not self.is_on("consume")
+        if stays or self.is_on("single") and not self.is_wide:
             return (self.current if stays else None), False
         return self.next_song({self.current} if self.is_on("consume") else ())
+
+    def next_shown(self):
+        """What `status` tells as the next song, and whether a random round begins with it."""
+        if not self.is_wide:
+            return self.after_the_end()
+        return (self.current, False) if self.is_on("single") and self.is_on("repeat") else self.next_song()
+
+    def repeats_one(self):
+        return self.is_wide and self.is_on("single") and self.is_on("repeat") and not self.is_on("consume")
 
     # Steps.
 
@@ -67,7 +76,7 @@ class Player(readings.Readable):
             self.order_number, self.played = self.order_number + 1, []
         if self.is_on("random"):
             self.played = [it for it in self.played if it != number] + [number]
-        self.state, self.current, self.frame, self.error = PLAY, number, frame, None
+        self.state, self.current, self.frame, self.error, self.failures = PLAY, number, frame, None, 0
         self.ticket += 1
 
     def halt(self, current=None):
@@ -99,12 +108,16 @@ class Player(readings.Readable):
         if self.current not in gone:
             self.take_out(gone, songs)
             return
-        number, is_round = self.next_song(gone) if self.state == PLAY else (None, False)
+        follows = self.state == PLAY or self.state == PAUSE and self.is_wide
+        is_paused = self.state == PAUSE
+        number, is_round = self.next_song(gone) if follows and not self.repeats_one() else (None, False)
         self.take_out(gone, songs)
         if number is None:
             self.halt()
-        else:
-            self.start(number, 0, is_round)
+            return
+        self.start(number, 0, is_round)
+        if is_paused:
+            self.halt(number)
 
     # The output's reports.
 
@@ -117,6 +130,12 @@ class Player(readings.Readable):
             return
         single = self.settings["single"]
         number, is_round = self.after_the_end()
+        if self.is_wide and single != "0" and not self.repeats_one():
+            self.go_on()
+            if self.state == PLAY and not self.is_on("repeat"):
+                self.state = PAUSE
+                self.settings["single"] = "0" if single == "oneshot" else single
+            return
         if single == "0":
             self.go_on()
         elif number is not None:
@@ -126,11 +145,20 @@ class Player(readings.Readable):
             self.halt()
         else:
             self.halt(self.current)
-        if single == "oneshot":
+        if single == "oneshot" and not self.is_wide:
             self.settings["single"] = "0"
 
     def broken(self, ticket, cause):
-        if ticket == self.ticket and self.state != STOP:
+        if ticket != self.ticket or self.state == STOP:
+            return
+        is_through = self.repeats_one() or len(self.queue) - 1 <= self.failures
+        if self.is_wide and cause == "source" and self.state == PLAY and not is_through:
+            error, failures, order = f"cannot play {self.current_uri()}", self.failures, self.order_number
+            leaves = self.is_on("consume")
+            self.go_on()
+            self.error = error
+            self.failures = 0 if self.order_number != order else failures + (not leaves)
+        else:
             self.error = f"cannot play {self.current_uri()}" if cause == "source" else "output failed"
             self.state = STOP
 
@@ -271,7 +299,7 @@ class Player(readings.Readable):
         lines += [f"playlist: {self.version}", f"playlistlength: {len(self.queue)}", f"state: {self.state}"]
         if self.current is not None:
             lines += [f"song: {self.place(self.current)}", f"songid: {self.current}"]
-            number, is_round = self.after_the_end()
+            number, is_round = self.next_shown()
             if number is not None and not is_round:
                 lines += [f"nextsong: {self.place(number)}", f"nextsongid: {number}"]
             if self.state != STOP:

@@ -2,7 +2,7 @@
 
 import model
 import refusals
-
+import stock_rows
 
 
 def listed_commands():
@@ -19,13 +19,13 @@ class Readable(model.State):
         return ""
 
     def commands(self):
-        return "".join(f"command: {it}\n" for it in listed_commands())
+        return "".join(f"command: {it}\n" for it in sorted([*listed_commands(), *(stock_rows.NAMES if self.is_wide else ())]))
 
     def notcommands(self):
         return ""
 
     def tagtypes(self):
-        return "".join(f"tagtype: {it}\n" for it in ("Title", "Artist", "Album", "Date", "Genre", "Comment"))
+        return "".join(f"tagtype: {it}\n" for it in stock_rows.TAGS[: None if self.is_wide else 6])
 
     # The songs.
 
@@ -80,7 +80,8 @@ class Readable(model.State):
 
     def list(self, tag, *words):
         found = self.found(words, False)[0] if words else self.songs
-        values = {it for uri in found for it in self.texts(uri, tag.lower())}
+        of_none = [""] if self.is_wide else []
+        values = {it for uri in found for it in self.texts(uri, tag.lower()) or of_none}
         return "".join(f"{tag.capitalize()}: {it}\n" for it in model.by_bytes(values))
 
     # The queue.

@@ -368,8 +368,7 @@ class Conversation(Program):
 def read(path):
     """What a file has, or None."""
     try:
-        with open(path, "rb") as file:
-            return file.read()
+        return scripts.read(path)
     except FileNotFoundError:
         return None
 

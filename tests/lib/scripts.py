@@ -42,6 +42,7 @@ import tempfile
 import threading
 
 import under
+import waves
 
 DEFAULTS = {"music": '"music"', "journal_a": '"a"', "journal_b": '"b"', "key": '"' + "5a" * 32 + '"'}
 SECONDS = under.seconds(60)
@@ -142,19 +143,10 @@ def whole(text):
     return text.encode()
 
 
-def chunk(name, data):
-    return name.encode() + len(data).to_bytes(4, "little") + data + b"\0" * (len(data) % 2)
-
-
 def wave(frames, infos):
     """The bytes of a WAVE file."""
-    numbers = [(1, 2), (1, 2), (8000, 4), (16000, 4), (2, 2), (16, 2)]
-    form = b"".join(number.to_bytes(size, "little") for number, size in numbers)
-    parts = chunk("fmt ", form) + chunk("data", bytes(2 * frames))
-    if infos:
-        texts = [info.replace("_", " ").split("=", 1) for info in infos]
-        parts += chunk("LIST", b"INFO" + b"".join(chunk(name, text.encode() + b"\0") for name, text in texts))
-    return chunk("RIFF", b"WAVE" + parts)
+    texts = [it.replace("_", " ").split("=", 1) for it in infos]
+    return waves.wave_of(bytes(2 * frames), more=waves.info(*texts) if texts else b"")
 
 
 def configuration(settings):
@@ -170,11 +162,16 @@ def configuration(settings):
     return "".join(f"{key} = {value}\n" for key, value in keys.items())
 
 
+def read(path):
+    with open(path, "rb") as file:
+        return file.read()
+
+
 def write(path, content):
-    """Writes a file, and makes the folders above it."""
+    """Writes a file of bytes or of text, and makes the folders above it."""
     os.makedirs(os.path.dirname(path), exist_ok=True)
     with open(path, "wb") as file:
-        file.write(content)
+        file.write(content.encode() if isinstance(content, str) else content)
 
 
 def prepare(line, folder):
@@ -182,9 +179,7 @@ def prepare(line, folder):
     word, *words = with_heads(line).split()
     path = os.path.join(folder, words[0]) if words else folder
     if word == "config":
-        os.makedirs(folder, exist_ok=True)
-        with open(path, "w", encoding="utf-8") as file:
-            file.write(configuration(words[1:]))
+        write(path, configuration(words[1:]))
     elif word == "folder":
         os.makedirs(path)
     elif word == "file":
@@ -216,8 +211,7 @@ def prepare(line, folder):
             file.seek(int(words[1]))
             file.write(bytes.fromhex("".join(words[2:])))
     elif word == "holds":
-        with open(path, "rb") as file:
-            content = file.read()
+        content = read(path)
         if len(content) != int(words[1]) or not content.endswith(bytes.fromhex("".join(words[2:]))):
             raise Failure(f"{words[0]} has {len(content)} bytes: {content[-200:].hex()} at its end")
     else:

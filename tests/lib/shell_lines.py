@@ -11,8 +11,11 @@ import shutil
 import subprocess
 
 import builds
-from daemons import GREETING, LIMIT, Client, update, wait_for, wave_of
-from scripts import Failure, configuration
+from clients import GREETING, LIMIT, Client, wait_for
+from daemons import update
+from scripts import Failure, configuration, write
+from scripts import read as content
+from waves import wave_of
 
 SONGS = ("Anna Bell/First Light/01 Dawn.wav", "Anna Bell/First Light/02 Noon.wav")
 LINKED, COPIED = ("crates", "contrib", "tests", "start", "mpd_daemon.example.toml"), ("crates.txt", "HANDLES")
@@ -82,9 +85,7 @@ class Room:
         self.how = {"env": {**os.environ, "PATH": path, "FROM": f"{folder}/from", "TO": f"{folder}/to"}}
 
     def write(self, name, content):
-        os.makedirs(os.path.dirname(f"{self.folder}/{name}"), exist_ok=True)
-        with open(f"{self.folder}/{name}", "wb") as file:
-            file.write(content)
+        write(f"{self.folder}/{name}", content)
 
     def start(self, command, folder, address):
         """Starts what serves, and waits for its greeting: the process."""
@@ -173,11 +174,6 @@ def make_songs(room, loop):
     room.run(loop)
     if [content(it) for it in originals] != before:
         raise Failure(f"{loop}: it wrote into the originals")
-
-
-def content(path):
-    with open(path, "rb") as file:
-        return file.read()
 
 
 def run_readme(room, text):

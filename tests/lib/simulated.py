@@ -31,9 +31,8 @@ LEFT_OFF = "left off"
 # In an episode this part of the clients are stock clients, of a daemon that knows the named subset. What these ask beside what all do; what
 # takes several steps is in tests/stock.
 STOCK = (0, 0.5)
-FOREIGN = """status|stats|commands|lsinfo|lsinfo /|listall d|listallinfo d/e|listall d/c.wav|listplaylists|tagtypes|tagtypes clear|tagtypes all
-tagtypes disable Title|tagtypes enable title|tagtypes foo|list Artist|list Genre|find Album ""|find Artist ""|search filename WAV
-playlistfind date ""|playlistinfo|currentsong""".replace("\n", "|")
+FOREIGN = """status|stats|commands|lsinfo|lsinfo /|listall d|listallinfo d/e|listall d/c.wav|listplaylists|tagtypes|list Artist|list Genre
+find Album ""|find Artist ""|search filename WAV|playlistfind date ""|playlistinfo|currentsong""".replace("\n", "|")
 
 
 def unlike(found, greeting, asked):

@@ -11,30 +11,11 @@ import signal
 import struct
 import time
 
-from daemons import Daemon, check, put_song, samples, update, wait_for
-from scripts import Failure
-from sounds import (
-    HEAD,
-    LONG,
-    MOST_FRAMES,
-    SONGS,
-    SOUND,
-    Recorded,
-    Song,
-    Sound,
-    changes_of_player,
-    check_front,
-    files_in,
-    fill_the_pipe,
-    pieces_of,
-    pending,
-    play_to_the_end,
-    playing,
-    random_song,
-    runs_of,
-    sound_of,
-    stream_of,
-)
+from daemons import check, put_song, serving, update, wait_for
+from scripts import Failure, write
+from sounds import HEAD, LONG, MOST_FRAMES, SONGS, SOUND, Recorded, Song, Sound, changes_of_player, check_front, files_in, fill_the_pipe
+from sounds import pending, pieces_of, play_to_the_end, playing, random_song, runs_of, sound_of, stream_of
+from waves import samples
 
 # A player of the tests: it writes what it is given into a file named by its process, rate and channels.
 PLAYER = "sh -c 'exec cat >player-$$-{rate}-{channels}'"
@@ -180,8 +161,7 @@ def begun_anywhere(_, folder):
 
 def heard(reader, folder, stream):
     """What contrib/sound hears of these bytes."""
-    with open(f"{folder}/stream", "wb") as file:
-        file.write(stream)
+    write(f"{folder}/stream", stream)
     with open(f"{folder}/stream", "rb", buffering=0) as file:
         pieces = iter(reader["Stream"](file.fileno()).piece, None)
         try:
@@ -366,7 +346,7 @@ def read_of(pipe, count):
 
 def songs_without_frames(program, folder):
     """A queue in which nothing is heard makes at most ten changes a second, and `kill` ends it at once."""
-    with Daemon(program, folder).create().start() as daemon:
+    with serving(program, folder) as daemon:
         put_song(daemon, "empty.wav", [])
         with daemon.client() as client, daemon.client() as waiting:
             update(client)
@@ -383,26 +363,11 @@ def songs_without_frames(program, folder):
             check("at once", time.monotonic() - begun < 5, True)
 
 
-def rows_for_rooms():
+def left_out():
+    """The cases that can't be run here."""
     try:
         ctypes.CDLL("libsoxr.so.0")
     except OSError:
         print("rows of sound for rooms: not run: libsoxr0 isn't installed")
-        return []
-    return [sound_for_rooms, rooms_that_come_and_go, rooms_that_begin_again]
-
-
-ROWS = [
-    *rows_for_rooms(),
-    queue_in_waves,
-    pause_in_waves,
-    sound_into_files,
-    killed_in_a_piece,
-    sound_that_follows,
-    begun_anywhere,
-    bare_stream,
-    players_of_a_queue,
-    player_that_ends,
-    song_that_no_player_takes,
-    songs_without_frames,
-]
+        return [sound_for_rooms, rooms_that_come_and_go, rooms_that_begin_again]
+    return []

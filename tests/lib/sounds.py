@@ -15,8 +15,9 @@ import termios
 import threading
 import time
 
-from daemons import LIMIT, Daemon, check, put_song, samples, update, wait_for, wave_of
-from scripts import Failure
+from daemons import LIMIT, check, put_song, serving, update, wait_for
+from scripts import Failure, read
+from waves import samples, wave_of
 
 SOUND = os.path.join(os.path.dirname(os.path.abspath(__file__)), "../../contrib/sound")
 FORM = struct.Struct("<22xHI12xI")
@@ -52,7 +53,7 @@ def playing(program, folder, songs, **settings):
     """A daemon that plays into a pipe, with these songs in its queue."""
     os.makedirs(folder, exist_ok=True)
     os.mkfifo(f"{folder}/sound")
-    daemon = Daemon(program, folder, **{"form": "wave", **settings}).create().start()
+    daemon = serving(program, folder, **{"form": "wave", **settings})
     for it in songs:
         put_song(daemon, it.name, it.values, rate=it.rate, channels=it.channels)
     with daemon.client() as client:
@@ -96,7 +97,7 @@ def pieces_of(stream):
         frames, rest = divmod(len(data), 2 * channels)
         if rest or not 0 < frames <= MOST_FRAMES:
             raise Failure(f"a piece of {len(data)} bytes, {channels} channels")
-        check("a piece", stream[at : at + HEAD + length], wave_of(struct.unpack(f"<{len(data) // 2}h", data), rate, channels))
+        check("a piece", stream[at : at + HEAD + length], wave_of(data, rate, channels))
         yield (rate, channels), data
         at += HEAD + length
 
@@ -191,11 +192,9 @@ class Sound:
 def files_in(folder):
     """The form and the samples of the WAVE files in a folder, by their names; each must be one from its first byte to its last."""
     for name in sorted(os.listdir(folder)):
-        with open(f"{folder}/{name}", "rb") as file:
-            data = file.read()
+        data = read(f"{folder}/{name}")
         channels, rate, _ = FORM.unpack(data[:HEAD])
-        values = struct.unpack(f"<{(len(data) - HEAD) // 2}h", data[HEAD:])
-        check(name, data, wave_of(values, rate, channels))
+        check(name, data, wave_of(data[HEAD:], rate, channels))
         yield (rate, channels), data[HEAD:]
 
 

@@ -265,21 +265,3 @@ def player_that_takes_nothing(program, folder):
 def tries(folder):
     """How many players were begun."""
     return content(f"{folder}/tries").count(b"\n") if os.path.exists(f"{folder}/tries") else 0
-
-
-ROWS = [
-    start_makes_what_is_missing,
-    byte_order_mark,
-    start_without_the_drive,
-    start_without_a_pipe,
-    pipe_that_cannot_be_made,
-    older_python,
-    machines_unit_without_the_drive,
-    users_unit_without_a_pipe,
-    installed_without_the_drive,
-    words_that_are_not_taken,
-    daemon_that_runs_on,
-    lock_of_a_journal,
-    sound_without_a_pipe,
-    player_that_takes_nothing,
-]

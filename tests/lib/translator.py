@@ -145,9 +145,9 @@ def translated(line, alone=False, is_wide=False):
     """The part of one command line, in a list or not, for a plain daemon or for one that has `stock_clients`."""
     try:
         words = words_of(line)
-        same = Part([line], has_songs=words[0] in SONGS)
+        same = Part([line], has_songs=words[0] in SONGS and not is_wide)
         found = None if is_wide else for_plain(line, alone, words[0], words[1:])
-        found = found or by_words(line, alone, words[0], words[1:])
+        found = found or by_words(line, alone, words[0], words[1:], is_wide)
         return found if found and max(map(len, found.natives)) <= MOST_LINE else same
     except (Unreadable, UnicodeDecodeError):
         return Part([line])  # Which the daemon refuses.
@@ -169,24 +169,23 @@ def for_plain(line, alone, name, given):
         return Part([line], name, has_songs=True, told=dated)
     if name in ("listall", "listallinfo") and len(given) == 1 and given[0] not in ("", "/"):
         return Part([line], name, has_songs=True, told=below(given[0].encode()))
-    is_grouped = given[1:][-2:-1] == ["group"] and given[0].lower() in ALL
-    return list_of(*given) if name == "list" and given and not is_grouped else None
+    if name == "tagtypes" and given:
+        return tag_types(given)
+    if given[-2:-1] == ["group"] and name == "count":
+        return grouped("count", [], given, 1)
+    if name == "list" and given[1:][-2:-1] == ["group"] and given[0].lower() in ALL:
+        return grouped("list", given[:1], given[1:], 31)
+    return list_of(*given) if name == "list" and given else None
 
 
-def by_words(line, alone, name, given):
+def by_words(line, alone, name, given, is_wide):
     """None where it stays as it is."""
     if name == "shuffle":
         return shuffled(given) if alone else None
-    if name == "tagtypes" and given:
-        return tag_types(given)
     if name == "stats":
         return Part([line], name, more=lambda mask: ["uptime", "db_update"])
-    if given[-2:-1] == ["group"] and name == "count":
-        return grouped(alone, "count", [], given, 1)
-    if name == "list" and given[1:][-2:-1] == ["group"] and given[0].lower() in ALL:
-        return grouped(alone, "list", given[:1], given[1:], 31)
     if name in TAILS and given:
-        return filtered(line, name, given)
+        return filtered(line, name, given, is_wide)
     return None
 
 
@@ -252,6 +251,8 @@ def commands(line):
 def files_of(given):
     """`list file ..`: what finds songs takes more behind a filter, which what counts them refuses."""
     found = filter_of(given, ()) if given else None
+    if given and (len(given) != 1 if given[0].startswith("(") else len(given) % 2):
+        return refused("list", '2 wrong number of arguments for "list"')
     natives = [b"listall"] if found is None else [line_of("count", *found), line_of("find", *found)]
     return Part(natives, "list", told=lambda line, number: line if line.startswith(b"file: ") else None)
 
@@ -325,10 +326,8 @@ class Songs:
         return found
 
 
-def grouped(alone, name, tag, given, most):
+def grouped(name, tag, given, most):
     """`list TAG F group ..`, or `count F group TAG`: all songs are asked for."""
-    if not alone:
-        return refused(name, NOT_IN_LIST)
     tags, front = [it.lower() for it in tag], list(given)
     while len(tags) < most + len(tag) and front[-2:-1] == ["group"]:
         *front, _, last = front
@@ -387,11 +386,11 @@ def without_tag(name, words):
     return [whole] if is_filter(words[0]) and is_filter(whole) else None
 
 
-def filtered(line, name, given):
+def filtered(line, name, given, is_wide):
     """A command with a filter in it."""
     front = given[:1] if name in ("list", "searchaddpl") else []
     found = front + filter_of(given[len(front) :], TAILS[name], name in SEARCHES)
-    return Part([line if found == given else line_of(name, *found)], name, has_songs=name in SONGS)
+    return Part([line if found == given else line_of(name, *found)], name, has_songs=name in SONGS and not is_wide)
 
 
 def filter_of(words, tails, within=False):
@@ -399,7 +398,7 @@ def filter_of(words, tails, within=False):
     if not words:
         raise Unreadable
     if words[0].startswith("("):
-        if words[1:] and not tails:
+        if words[1:] and not tails and words[1] != "group":
             raise Unreadable
         return [expression_of(words[0]), *tail_of(words[1:])]
     place = 0

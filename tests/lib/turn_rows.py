@@ -42,6 +42,3 @@ def crowd_keeps_nobody_waiting(program, folder):
             after = sum(passes_of(*it) for it in crowd)
         if after - before > MOST or before > CROWD * PASSES // 2:
             raise Failure(f"{after - before} passes ended before a ping, {before} before it was asked")
-
-
-ROWS = [crowd_keeps_nobody_waiting]

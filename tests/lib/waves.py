@@ -1,34 +1,51 @@
-"""WAVE files and the sound in them, as Python's own reader and writer have them."""
+"""WAVE files and the sound in them, as Python's own reader has it."""
 
 import array
 import io
+import struct
 import sys
 import wave
+
+# The sub-format of PCM.
+PCM = bytes.fromhex("0100000000001000800000aa00389b71")
+
+
+def chunk(name, data):
+    return name.encode() + len(data).to_bytes(4, "little") + data + b"\0" * (len(data) % 2)
+
+
+def info(*texts):
+    """A LIST INFO of these sub-chunks, each as its name and its text."""
+    return chunk("LIST", b"INFO" + b"".join(chunk(name, text.encode() + b"\0") for name, text in texts))
+
+
+def samples(values, bits=16):
+    """Their bytes; 8 bits are unsigned."""
+    if bits == 16:
+        return struct.pack(f"<{len(values)}h", *values)
+    return b"".join((it + 128).to_bytes(1, "little") if bits == 8 else it.to_bytes(bits // 8, "little", signed=True) for it in values)
+
+
+def wave_of(sound, rate=8_000, channels=1, bits=16, mask=None, more=b""):
+    """A WAVE file of these samples, which are values or bytes; with a mask of its channels an extensible one; and more chunks behind it."""
+    data, size = sound if isinstance(sound, bytes) else samples(sound, bits), bits // 8 * channels
+    form = struct.pack("<HHIIHH", 1 if mask is None else 0xFFFE, channels, rate, rate * size, size, bits)
+    form += b"" if mask is None else struct.pack("<HHI", 22, bits, mask) + PCM
+    return chunk("RIFF", b"WAVE" + chunk("fmt ", form) + chunk("data", data) + more)
 
 
 def wave_file(rate, channels, frames, seed):
     """The bytes of a WAVE file, whose samples go through all values."""
-    samples = array.array("h", ((it * 7919 + seed * 104729) % 65536 - 32768 for it in range(frames * channels)))
+    values = array.array("h", ((it * 7919 + seed * 104729) % 65536 - 32768 for it in range(frames * channels)))
     if sys.byteorder == "big":
-        samples.byteswap()
-    return wave_of(rate, channels, samples.tobytes())
-
-
-def wave_of(rate, channels, sound):
-    """A WAVE file of these samples."""
-    file = io.BytesIO()
-    with wave.open(file, "wb") as writer:
-        writer.setnchannels(channels)
-        writer.setsampwidth(2)
-        writer.setframerate(rate)
-        writer.writeframes(sound)
-    return file.getvalue()
+        values.byteswap()
+    return wave_of(values.tobytes(), rate, channels)
 
 
 def piece_of(data, first, count, percent):
     """A WAVE file of frames of a WAVE file at a volume."""
     with wave.open(io.BytesIO(data)) as reader:
-        return wave_of(reader.getframerate(), reader.getnchannels(), sound_of(data, first, count, percent))
+        return wave_of(sound_of(data, first, count, percent), reader.getframerate(), reader.getnchannels())
 
 
 def sound_of(data, first, count, percent):
@@ -38,6 +55,5 @@ def sound_of(data, first, count, percent):
         frames = reader.readframes(count)
         if len(frames) != count * reader.getnchannels() * 2:
             raise ValueError(f"there are no {count} frames from {first} on")
-    samples = [int.from_bytes(frames[at : at + 2], "little", signed=True) for at in range(0, len(frames), 2)]
-    scaled = [abs(it) * percent // 100 * (1 if it > 0 else -1) for it in samples]
-    return b"".join(it.to_bytes(2, "little", signed=True) for it in scaled)
+    values = [int.from_bytes(frames[at : at + 2], "little", signed=True) for at in range(0, len(frames), 2)]
+    return samples([abs(it) * percent // 100 * (1 if it > 0 else -1) for it in values])
