@@ -1,5 +1,5 @@
-"""What the tests of crashes have in common: the songs, the requests that are drawn for the state that those before leave, and what a client
-may read behind a crash. The states are told by plain lists (model.py, readings.py, player.py)."""
+"""What crashes of all kinds have in common: the journal and the music before them, the requests that are drawn for the state that those
+before leave, and which of these states a client may find. The states are told by plain lists (model.py, readings.py, player.py)."""
 
 import collections
 import contextlib
@@ -8,56 +8,51 @@ import os
 
 import changes
 import model
-from scripts import Failure, wave
+import player
+from clients import is_whole, wait_for
+from daemons import Daemon
+from scripts import Failure, wave, write
 
 # The key of random order, and the songs of the music's folder, each with its frames and its title.
 KEY = bytes([0x5A]) * 32
 SONGS = {"a.wav": (800, "One"), "b.wav": (8001, ""), "d/c.wav": (16000, "Zwei und drei"), "d/e/f.wav": (1, ""), "ö 1.wav": (80, "4")}
 FILES = "ab"
+# When the files were changed, in seconds, and as `stock_clients` tells it.
+CHANGED, MODIFIED = 86_400, "1970-01-02T00:00:00Z"
 # At most so many changes are sent and not yet answered.
 MOST_UNANSWERED = 64
 # This part of the requests are command lists of several; this part of the others change nothing that is kept.
 LISTS, OTHERS = 0.2, 0.3
 
 
-def put_song(folder, uri, frames, title):
-    """The file is there at once, and whole."""
-    path = f"{folder}/music/{uri}"
-    os.makedirs(os.path.dirname(path), exist_ok=True)
-    with open(f"{path}.part", "wb") as file:
-        file.write(wave(frames, [f"INAM={title}"] if title else []))
-    os.rename(f"{path}.part", path)
+def prepared(program, folder, left=None, is_old=False, is_wide=False, **settings):
+    """A daemon on its socket alone, over a new journal: with so many records left before a checkpoint, of layout 1, or by `stock_clients`
+    of layout 3."""
+    wide = {"stock_clients:": "true"} if is_wide else {}
+    daemon = Daemon(program, folder, tcp="", key=KEY.hex(), **settings, **({} if is_old else wide)).create()
+    if left is not None:
+        daemon.journal().fill(left, 100)
+    if is_old:
+        daemon.journal().make_old()
+    daemon.settings |= wide
+    daemon.write()
+    return daemon
 
 
-def songs_of(songs, modified=""):
-    return {uri: model.Song(*song, modified) for uri, song in songs.items()}
-
-
-def scanned(state, songs):
-    """The state after a scan that found these songs."""
-    state = copy.copy(state)
-    state.scanned(songs)
+def fresh(songs=None, is_wide=False):
+    """The state of a new journal."""
+    state = player.Player(songs or {}, KEY)
+    state.is_wide = is_wide
     return state
-
-
-def drawn(state, draw, lists):
-    """A change, or the changes of a list, which this part of them are."""
-    return changes.listed(state, draw) if draw.random() < lists else [changes.change(state, draw)]
-
-
-def request_of(commands):
-    return model.request(*commands) if len(commands) == 1 else model.list_request(commands, False)
-
-
-def readings(state):
-    """What a client asks for that reads all of a state, with the answers."""
-    return [*state.readings(changes.PLAYLISTS, SONGS)]
 
 
 def ask_all(client, requests):
     """The bytes of the answers to these requests, each given as its words."""
     client.send(b"".join(map(model.request, requests)))
-    return [client.answered() for _ in requests]
+    found = [client.answered() for _ in requests]
+    if not all(map(is_whole, found)):
+        raise ConnectionResetError("an answer was cut off")
+    return found
 
 
 def ended(console):
@@ -66,16 +61,21 @@ def ended(console):
 
 
 class Music:
-    """The folder of the music, and the songs that stand in it."""
+    """The folder of the music, and the songs that stand in it; with `stock_clients` each was changed at the same time."""
 
-    def __init__(self, folder):
-        self.folder, self.songs = folder, {}
+    def __init__(self, folder, is_wide=False):
+        self.folder, self.is_wide, self.songs = folder, is_wide, {}
         for uri, song in SONGS.items():
-            self.put(uri, model.Song(*song))
+            self.put(uri, *song)
 
-    def put(self, uri, song):
-        put_song(self.folder, uri, song.frames, song.title)
-        self.songs = {**self.songs, uri: song}
+    def put(self, uri, frames, title):
+        """The file is there at once, and whole."""
+        path = f"{self.folder}/music/{uri}"
+        write(f"{path}.part", wave(frames, [f"INAM={title}"] if title else []))
+        if self.is_wide:
+            os.utime(f"{path}.part", (0, CHANGED))
+        os.rename(f"{path}.part", path)
+        self.songs = {**self.songs, uri: model.Song(frames, title, MODIFIED if self.is_wide else "")}
 
     def remove(self, uri):
         os.remove(f"{self.folder}/music/{uri}")
@@ -87,55 +87,66 @@ class Music:
         if uri in self.songs and len(self.songs) > 2 and draw.random() < 0.5:
             self.remove(uri)
         else:
-            self.put(uri, model.Song(draw.choice([80, 8001, 16000]), draw.choice(["", "One", f"Take {draw.randrange(1000)}"])))
+            self.put(uri, draw.choice([80, 8001, 16000]), draw.choice(["", "One", f"Take {draw.randrange(1000)}"]))
 
 
 class Front:
-    """What is sent between two kills: the states from the one before the first request, and the answers; a batch of a scan has none."""
+    """What is sent to a program that may end at any moment: the states from the one before the first request on, and the answers; a batch
+    of a scan has none. Where they are told apart, each change is to a state that wasn't there before."""
 
-    def __init__(self, state, draw):
-        self.states, self.answers, self.seen = [state], [], {state.seen()}
-        self.answered, self.draw, self.sent = 0, draw, collections.Counter()
+    def __init__(self, state, draw, are_told_apart=True):
+        self.states, self.answers, self.commands, self.seen = [state], [], [], {state.seen()}
+        self.answered, self.draw, self.are_told_apart, self.sent = 0, draw, are_told_apart, collections.Counter()
 
-    def add(self, state, answer):
+    def add(self, state, answer, commands=()):
         self.seen.add(state.seen())
         self.states.append(state)
         self.answers.append(answer)
+        self.commands.append(commands)
 
-    def next_request(self, others):
-        """What changes nothing that is kept, or a change to a state that wasn't there since the last kill, so that the state found tells
-        how many changes were kept."""
-        if self.draw.random() < OTHERS:
+    def next_request(self, others=()):
+        """One of the others, which change nothing that is kept, or a change."""
+        if others and self.draw.random() < OTHERS:
             return self.request([self.draw.choice(others)(self.states[-1], self.draw)])
         while True:
             is_list, is_list_ok = self.draw.random() < LISTS, self.draw.random() < 0.5
             commands = changes.listed(self.states[-1], self.draw) if is_list else [changes.change(self.states[-1], self.draw)]
             state, answer = self.states[-1].after(commands, is_list and is_list_ok)
-            if state.seen() not in self.seen:
+            if not self.are_told_apart or state.seen() not in self.seen:
                 return self.request(commands, (state, answer), is_list_ok if is_list else None)
 
     def request(self, commands, leaves=None, is_list_ok=None):
         """The bytes of a request of these commands, which leaves this state and has this answer."""
-        self.add(*(leaves or self.states[-1].after(commands)))
+        self.add(*(leaves or self.states[-1].after(commands)), commands)
         self.sent.update(" ".join(it[:2] if it[0] == "sticker" else it[:1]) for it in commands)
         self.sent["lists"] += is_list_ok is not None
         return model.request(*commands) if is_list_ok is None else model.list_request(commands, is_list_ok)
 
     def update(self, music):
-        """Files change, and then the scan finds them: a batch, which is over when a later request is answered."""
-        for _ in range(self.draw.randint(0, 3)):
-            music.change(self.draw, self.states[-1].current_uri())
-        request = self.request([[self.draw.choice(["update", "rescan"])]])
-        self.add(scanned(self.states[-1], music.songs), None)
+        """A scan, which finds what stands there: a batch, which is over when a later request is answered."""
+        request, state = self.request([[self.draw.choice(["update", "rescan"])]]), copy.copy(self.states[-1])
+        state.scanned(music.songs)
+        self.add(state, None)
         return request
+
+    def scan(self, client, music):
+        """Has the music read, and waits until it is."""
+        self.exchange(client, self.update(music))
+        wait_for("the end of the scan", lambda: b"updating_db" not in ask_all(client, [["status"]])[0])
+        self.answered = len(self.answers)
+
+    def waiting(self):
+        """How many answers are still to come."""
+        return sum(it is not None for it in self.answers[self.answered :])
 
     def send(self, client, unanswered, others, music=None, scans=0):
         """Sends until so many are not answered, or the program is gone; this often, where all is answered, the music changes first."""
         with contextlib.suppress(ConnectionError):
             if self.answered == len(self.answers) and self.draw.random() < scans:
+                for _ in range(self.draw.randint(0, 3)):
+                    music.change(self.draw, self.states[-1].current_uri())
                 client.send(self.update(music))
-            more = unanswered - sum(it is not None for it in self.answers[self.answered :])
-            client.send(b"".join(self.next_request(others) for _ in range(more)))
+            client.send(b"".join(self.next_request(others) for _ in range(unanswered - self.waiting())))
 
     def take(self, answer):
         """Takes an answer, or the front of one that was cut by a kill: that was given out too."""
@@ -154,25 +165,32 @@ class Front:
                 return
             self.take(answer)
 
+    def exchange(self, client, *requests):
+        """Sends these requests at once, and takes their answers, each whole."""
+        client.send(b"".join(requests))
+        while self.waiting():
+            if not is_whole(answer := client.answered()):
+                raise ConnectionResetError("an answer was cut off")
+            self.take(answer)
+
     def changes(self, first, end):
         """How many of the requests from the one to before the other changed what is kept."""
         return sum(self.states[it].seen() != self.states[it + 1].seen() for it in range(first, end))
 
-    def found(self, client):
-        """How many of the requests are found, by all that a client can read, and whether one order number alone goes with that."""
-        told = lambda it: readings(self.states[it].restarted())
-        requests = [words for words, _ in told(0)]
-        found = [*zip(requests, ask_all(client, requests))]
-        # A change that wasn't answered may be kept, with all before it. What changes nothing leaves the state that was there.
-        counts = [it for it in range(self.answered, len(self.states)) if told(it) == found]
-        if not counts:
-            lost = next((it for it in range(self.answered) if told(it) == found), None)
-            if lost is not None:
-                raise Failure(f"{self.changes(lost, self.answered)} answered changes are lost")
-            pairs = [(one, other[1]) for one, other in zip(found, told(self.answered)) if one != other]
-            parts = [f"{' '.join(words)} answers {one[:150]!r} and not {other[:150]!r}" for (words, one), other in pairs]
+    def found(self, client, places=()):
+        """The place of the state that a client reads, by all that it can, and whether one order number alone goes with that. It must be one
+        of these places, or if not said of those from what was answered last on: what wasn't answered may be kept, with all before it."""
+        places = places or range(self.answered, len(self.states))
+        told = lambda it: self.states[it].restarted().readings(changes.PLAYLISTS, SONGS)
+        answers = ask_all(client, [words for words, _ in told(0)])
+        is_read = lambda it: all(answer == wanted for answer, (_, wanted) in zip(answers, told(it)))
+        if not (left := list(filter(is_read, places))):
+            if (lost := next(filter(is_read, range(min(places))), None)) is not None:
+                raise Failure(f"{self.changes(lost, min(places))} answered changes are lost")
+            pairs = [(words, answer, wanted) for answer, (words, wanted) in zip(answers, told(min(places))) if answer != wanted]
+            parts = [f"{' '.join(words)} answers {answer[:150]!r} and not {wanted[:150]!r}" for words, answer, wanted in pairs]
             raise Failure(f"the state found is not one along the changes sent; beside that after those answered, {', '.join(parts)}")
-        stamps = [*self.states[counts[0]].stamp_readings()]
+        stamps = [*self.states[left[0]].stamp_readings()]
         if ask_all(client, [words for words, _ in stamps]) != [answer for _, answer in stamps]:
             raise Failure("the entries of the queue have other stamps")
-        return counts[0], len({self.states[it].order_number for it in counts}) == 1
+        return left[0], len({self.states[it].order_number for it in left}) == 1

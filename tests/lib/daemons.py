@@ -7,9 +7,10 @@ import signal
 import socket
 import subprocess
 import threading
+import time
 
 from clients import LIMIT, Client, Console, wait_for
-from consoles import Journal
+from journal_files import Journal
 from scripts import Failure, configuration, write
 from waves import wave_of
 
@@ -54,6 +55,11 @@ class Daemon:
     def ran(self, *words, **how):
         """The program at a task over its configuration, once that has ended."""
         return ran(self.program, *words, "c.toml", cwd=self.folder, **how)
+
+    def outcome(self, *words, **how):
+        """How such a task ends, and the lines of both streams."""
+        done = self.ran(*words, text=True, **how)
+        return done.returncode, done.stdout.splitlines(), done.stderr.splitlines()
 
     def create(self):
         done = self.ran("create")
@@ -125,6 +131,18 @@ class Daemon:
         self.process.send_signal(how)
         return self.end()
 
+    def end_by(self, client, seconds=2):
+        """A client's `kill` ends it, and soon."""
+        begun = time.monotonic()
+        client.send("kill\n")
+        check("the status", self.end(), 0)
+        check("at once", time.monotonic() - begun < seconds, True)
+
+    def has(self, **settings):
+        """These values stand in its status."""
+        with self.client() as client:
+            check("the status", {it: client.value("status", it) for it in settings}, settings)
+
     def __enter__(self):
         return self
 
@@ -139,12 +157,27 @@ def serving(program, folder, **settings):
     return Daemon(program, folder, **settings).create().start()
 
 
+def knowing(program, folder, songs, limits=(), **settings):
+    """A daemon over a new journal that has read these songs, each with its samples."""
+    daemon = Daemon(program, folder, **settings).create()
+    for name, values in songs.items():
+        put_song(daemon, name, values)
+    with daemon.start(limits).client() as client:
+        update(client)
+    return daemon
+
+
+def make_pipe(folder):
+    """The folder of a daemon that plays into a pipe."""
+    os.makedirs(folder, exist_ok=True)
+    os.mkfifo(f"{folder}/sound")
+
+
 def refused(program, folder, settings, status, lines):
     """A start that must fail so, with these last lines on standard error."""
-    done = Daemon(program, folder, **settings).ran("serve")
-    said = done.stderr.decode().splitlines()
-    if done.returncode != status or said[len(said) - len(lines) :] != list(lines):
-        raise Failure(f"{settings}: status {done.returncode}, {said}; wanted {status}, {lines}")
+    ended, _, said = Daemon(program, folder, **settings).outcome("serve")
+    if ended != status or said[len(said) - len(lines) :] != list(lines):
+        raise Failure(f"{settings}: status {ended}, {said}; wanted {status}, {lines}")
 
 
 def put_song(daemon, name, values, **how):

@@ -2,13 +2,12 @@
 contrib/decoder or breaks it."""
 
 import contextlib
-import os
 import socket
 import struct
 import threading
 import time
 
-from daemons import Daemon, check, put_song, update, wait_for
+from daemons import Daemon, check, make_pipe, put_song, update, wait_for
 from music_rows import WORDS, id3, lines_of
 from scripts import write
 from sounds import LONG, Recorded, Song, check_front, pieces_of, play_to_the_end, runs_of, sound_of
@@ -96,21 +95,20 @@ def answer(kind, body, wave):
     return struct.pack("<I", len(told)) + told
 
 
-def put(daemon, name):
-    """A file of the music that only a decoder knows."""
-    write(f"{daemon.folder}/music/{name}", "ID3, and nothing that is a WAVE file")
-
-
-def decoded(program, folder, *names):
-    """A daemon over a decoder, and its music: a song that the decoder tells, a file that it knows as none, a WAVE file, and files of these
-    names."""
-    os.makedirs(folder)
-    os.mkfifo(f"{folder}/sound")
+@contextlib.contextmanager
+def decoded(program, folder, told=None):
+    """A running daemon over a decoder, which has read its music, and a client: a song that the decoder tells, a file that it knows as none,
+    a WAVE file, and other files, of which it tells these WAVE files."""
+    make_pipe(folder)
     daemon = Daemon(program, folder, decoder="decoder", form="wave", **{"formats:": '["wave","flac"]', "debug:": "true"}).create()
-    for it in (SONG.name, "d/b.opus", "note.txt", *names):
-        put(daemon, it)
+    songs = {SONG.name: WAVE, **(told or {})}
+    for it in ("d/b.opus", "note.txt", *songs):
+        write(f"{folder}/music/{it}", "ID3, and nothing that is a WAVE file")
     put_song(daemon, PLAIN.name, PLAIN.values)
-    return daemon, Decoder(f"{folder}/decoder", {SONG.name: WAVE})
+    decoder = Decoder(f"{folder}/decoder", songs)
+    with daemon.start(), daemon.client() as client:
+        update(client)
+        yield daemon, decoder, client
 
 
 def check_songs(client, songs):
@@ -127,15 +125,12 @@ def tally(daemon, number):
 def songs_of_a_decoder(program, folder):
     """They are found by their endings, with their tags, and heard, from any place; what the decoder knows as no song has a line. Without the
     key they are none."""
-    daemon, decoder = decoded(program, folder)
-    with daemon.start():
+    with decoded(program, folder) as (daemon, decoder, client):
         recorded = Recorded(f"{folder}/sound")
-        with daemon.client() as client:
-            update(client)
-            check_songs(client, [(SONG, TITLE), (PLAIN, [])])
-            client.do(f"add {SONG.name}", f"add {PLAIN.name}")
-            play_to_the_end(client, "play 0")
-            wait_for("its line", lambda: any("update 1: " in it for it in daemon.lines))
+        check_songs(client, [(SONG, TITLE), (PLAIN, [])])
+        client.do(f"add {SONG.name}", f"add {PLAIN.name}")
+        play_to_the_end(client, "play 0")
+        wait_for("its line", lambda: any("update 1: " in it for it in daemon.lines))
         daemon.kill()
         check("the sound", runs_of(pieces_of(recorded.end())), runs_of([sound_of(SONG), sound_of(PLAIN)]))
         check("the line", [it for it in daemon.lines if it.startswith("music: ")], ["music: d/b.opus: the decoder knows it as no song: no sound"])
@@ -158,9 +153,7 @@ def failing(program, folder, kind):
     """However a decoder fails at requests of this kind, its songs keep rows and stickers, others go on, and clients are answered meanwhile.
     (Of more than ten jobs within ten seconds not each has a line.)"""
     faults = {what: it for what, it in FAULTS.items() if it[0] == kind}
-    daemon, decoder = decoded(program, folder)
-    with daemon.start(), daemon.client() as client, daemon.client() as other:
-        update(client)
+    with decoded(program, folder) as (daemon, decoder, client), daemon.client() as other:
         client.do(f"sticker set song {SONG.name} k v")
         for number, (what, (_, done, said)) in enumerate(faults.items(), 2):
             decoder.fault, told = (kind, done), len(daemon.lines)
@@ -202,12 +195,9 @@ def decoder_that_reads_nothing(program, folder):
 def decoder_that_fails_in_a_song(program, folder):
     """However it fails behind some of a song's samples, those before it are heard, the song stops with an error, others play, and so does
     the song once the decoder is well."""
-    daemon, decoder = decoded(program, folder, HEARD.name)
-    decoder.songs[HEARD.name] = wave_of(HEARD.values, HEARD.rate, HEARD.channels)
     faults = {what: done for what, (kind, done, _) in FAULTS.items() if kind == READ}
-    with daemon.start(), daemon.client() as client:
+    with decoded(program, folder, {HEARD.name: wave_of(HEARD.values, HEARD.rate, HEARD.channels)}) as (daemon, decoder, client):
         recorded = Recorded(f"{folder}/sound")
-        update(client)
         client.do(f"add {HEARD.name}", f"add {PLAIN.name}")
         decoder.behind = BEHIND
         for what, done in faults.items():
@@ -232,9 +222,7 @@ def decoder_that_fails_in_a_song(program, folder):
 
 def decoder_that_lies(program, folder):
     """Bytes that are no WAVE file cost that file alone, which is a song again once they are others."""
-    daemon, decoder = decoded(program, folder)
-    with daemon.start(), daemon.client() as client:
-        update(client)
+    with decoded(program, folder) as (_, decoder, client):
         check_songs(client, [(SONG, TITLE), (PLAIN, [])])
         for wave in (bytes(len(WAVE)), WAVE[:22] + b"\xff\xff" + WAVE[24:], WAVE[:24] + bytes(4) + WAVE[28:], b"RIFF"):
             decoder.songs[SONG.name] = wave

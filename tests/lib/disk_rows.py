@@ -4,7 +4,7 @@ import os
 
 import preload
 from daemons import Daemon, check, put_song, update, wait_for
-from log_rows import NONE, told
+from log_rows import tally, told
 from scripts import write
 
 RAMP = list(range(0, 4_000, 4))
@@ -59,40 +59,33 @@ class Slow:
             found = [it.removeprefix("file: ") for it in self.client.ask(request) if it.startswith("file: ")]
             check(request, sorted(found), songs)
 
-    def tells(self, job, text):
+    def tells(self, job, songs, **counts):
         """The last line of a job."""
         wait_for("its line", lambda: told(self.daemon, f"update {job}: "))
-        check("its line", told(self.daemon, f"update {job}: "), [f"update {job}: {text}"])
+        check("its line", told(self.daemon, f"update {job}: "), [tally(job, songs, **counts)])
 
-
-def tally(songs, gone, folders, files):
-    """What a job says that found no new song."""
-    return f"{songs} songs, 0 of them new, 0 changed, {gone} gone; left out: {NONE}; not read: {folders} folders, {files} files"
+    def goes(self, disk, songs, *unread):
+        """What stands in this folder is taken out in the middle of a listing, and also between that and the opening of the songs: all are
+        kept. So many folders and files aren't read then."""
+        for job, number, (folders, files) in zip((2, 3), (LISTING, OPENING), unread):
+            self.job(number, lambda _: self.move(disk, "away"))
+            self.knows(ALL)
+            self.tells(job, songs, folders=folders, files=files)
+            self.move("away", disk)
+        update(self.client)
+        self.knows(ALL)
+        self.tells(4, SONGS + 2)
 
 
 def disk_goes_in_a_listing(program, folder):
-    """The music is taken out in the middle of a listing, and also between that and the opening of the songs: all are kept."""
     with Slow(program, folder) as slow:
-        for job, number, text in ((2, LISTING, tally(1, 0, 1, 1)), (3, OPENING, tally(1, 0, 0, SONGS + 1))):
-            slow.job(number, lambda _: slow.move("music", "away"))
-            slow.knows(ALL)
-            slow.tells(job, text)
-            slow.move("away", "music")
-        update(slow.client)
-        slow.knows(ALL)
-        slow.tells(4, tally(SONGS + 2, 0, 0, 0))
+        slow.goes("music", 1, (1, 1), (0, SONGS + 1))
 
 
 def disk_behind_a_link_goes(program, folder):
     """The same of a disk to which a link leads."""
     with Slow(program, folder, "disk/songs") as slow:
-        for job, number, text in ((2, LISTING, tally(2, 0, 1, 0)), (3, OPENING, tally(2, 0, 0, SONGS))):
-            slow.job(number, lambda _: slow.move("disk", "away"))
-            slow.knows(ALL)
-            slow.tells(job, text)
-            slow.move("away", "disk")
-        update(slow.client)
-        slow.knows(ALL)
+        slow.goes("disk", 2, (1, 0), (0, SONGS))
 
 
 def folder_replaced_in_a_listing(program, folder):
@@ -106,12 +99,12 @@ def folder_replaced_in_a_listing(program, folder):
 
         slow.job(LISTING, replace)
         slow.knows(ALL)
-        slow.tells(2, tally(2, 0, 1, 0))
+        slow.tells(2, 2, folders=1)
         why = "can't be read: it leads upwards, or changed meanwhile; the songs known there are kept"
         check("its line", [it for it in slow.daemon.lines if it.startswith("music: ")], [f"music: music/slow: {why}"])
         update(slow.client)
         slow.knows(["a.wav", "z.wav"])
-        slow.tells(3, tally(2, SONGS, 0, 0))
+        slow.tells(3, 2, gone=SONGS)
 
 
 def songs_removed_in_a_listing(program, folder):
@@ -123,4 +116,4 @@ def songs_removed_in_a_listing(program, folder):
             slow.job(number, lambda path: removed.append(path) or os.remove(path))
             left.remove(os.path.relpath(removed[0], f"{folder}/music"))
             slow.knows(left)
-            slow.tells(job, tally(len(left), 1, 0, 0))
+            slow.tells(job, len(left), gone=1)

@@ -7,7 +7,7 @@ import subprocess
 import tempfile
 import threading
 
-import consoles
+import journal_files
 import preload
 import scripts
 import under
@@ -172,7 +172,7 @@ def torn(old, new, draw):
 def without_gate(content):
     """A journal's file whose last record's gate is still closed."""
     try:
-        lengths, place = consoles.records_of(content)
+        lengths, place = journal_files.records_of(content)
     except IndexError:
         return content
     at = place - lengths[-1] if lengths else 0
@@ -189,7 +189,7 @@ def filled(files, left, volume, folder):
     paths = [f"{folder}/.{it}" for it in "ab"]
     for path, content in zip(paths, files):
         scripts.write(path, content)
-    consoles.Journal(*paths).fill(left, volume)
+    journal_files.Journal(*paths).fill(left, volume)
     found = []
     for path in paths:
         with open(path, "rb") as file:

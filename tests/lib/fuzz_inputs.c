@@ -1,7 +1,6 @@
 /* Linked in front of the main of a program that is fuzzed by AFL++: runs it over one input after the other, in one process.
  *
- * KIND says what an input is: `lines` of a client, a `wave` file, `journal` files, a `config`, or for the driver the `answers` of a daemon
- * and what its client sends, a byte 1 before each piece of the client's, a byte 2 before each of the daemon's. ROOM is the folder in which
+ * KIND says what an input is: `lines` of a client, a `wave` file, `journal` files or a `config`. ROOM is the folder in which
  * the program runs, and which it takes for the root of the system; tests/fuzz makes it, with what each run begins with in the folder `keep`:
  *
  *     a, b        the files of a journal
@@ -11,8 +10,7 @@
  *
  * A run that ends by a signal is a finding: what the program itself ends by, SIGPROF after two seconds of processor time, SIGUSR1 where it
  * held more than 200 MB, SIGUSR2 where the journal that a run left can't be opened, SIGSYS where it answers the requests that only read
- * otherwise than it did before. A second run looks for the last two, behind every fourth input. With `answers` SIGSYS says that what is
- * asked or given ends no line, and SIGUSR2 that the driver failed.
+ * otherwise than it did before. A second run looks for the last two, behind every fourth input.
  */
 #define _GNU_SOURCE
 #include <dirent.h>
@@ -243,65 +241,11 @@ static void run_twice(struct bytes lines)
         munmap((void *)all.at, all.length);
 }
 
-/* ---- an input as a conversation of the driver */
-
-static void add_text(const char *text)
-{
-    add((struct bytes){(const unsigned char *)text, strlen(text)});
-}
-
-static void put_input_as_script(void)
-{
-    static const char digits[] = "0123456789abcdef";
-    fill = 0;
-    add_text("make_conversation\nsays ");
-    for (size_t at = 0; at < length && at < MOST / 8; at++) {
-        if (input[at] == 1 || input[at] == 2) {
-            add_text(input[at] == 1 ? "\nasks " : "\nsays ");
-        } else {
-            built[fill++] = digits[input[at] >> 4];
-            built[fill++] = digits[input[at] & 15];
-        }
-    }
-    add_text("\nclose\n");
-}
-
-/* Whether each line of these that tells bytes tells those of whole lines. */
-static int are_lines(struct bytes it)
-{
-    size_t begin = 0;
-    for (size_t at = 0; at < it.length; at++) {
-        if (it.at[at] != '\n')
-            continue;
-        const char *line = (const char *)it.at + begin;
-        const int tells = !strncmp(line, "native ", 7) || !strncmp(line, "given ", 6);
-        if (tells && memcmp(it.at + at - 2, "0a", 2))
-            return 0;
-        begin = at + 1;
-    }
-    return 1;
-}
-
-static void run_conversation(void)
-{
-    put_input_as_script();
-    const struct bytes none = {0}, all = written((struct bytes){built, fill}, none);
-    if (status || !all.at)
-        raise(SIGUSR2);
-    if (!are_lines(all))
-        raise(SIGSYS);
-    munmap((void *)all.at, all.length);
-}
-
 static void run_input(const char *kind)
 {
     const struct itimerval two_seconds = {{0, 0}, {2, 0}};
     const struct bytes whole = part(0, MOST), none = {0};
     setitimer(ITIMER_PROF, &two_seconds, NULL);
-    if (!strcmp(kind, "answers")) {
-        run_conversation();
-        return;
-    }
     if (!strcmp(kind, "config")) {
         remove_files(".");
         remove_files("music");

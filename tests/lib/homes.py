@@ -42,8 +42,7 @@ class Home:
         put(f"{self.tools}/systemctl", MANAGER.format(calls=shlex.quote(f"{self.tools}/calls"), refused=refused), 0o755)
 
     def calls(self):
-        with open(f"{self.tools}/calls", encoding="utf-8") as file:
-            return file.read().splitlines()
+        return content(f"{self.tools}/calls").decode().splitlines()
 
     def run(self, *words, status=0):
         """What contrib/install prints."""

@@ -4,7 +4,7 @@ import resource
 
 import under
 from clients import in_one_list
-from daemons import Daemon, check, limited, put_song, update
+from daemons import check, knowing, limited
 
 # The limit, in bytes, and how many command lists are kept under it, which are longer together. For a thread's first allocation the C library
 # tries 64 MiB at once, and lets go of them: beside that a list must find memory.
@@ -13,6 +13,7 @@ MEMORY, LISTS = 110_000_000, 60
 COMMANDS, LENGTH = 500, 4096
 # Room for what an event takes, and none for all values at once.
 SPARE = 8_000_000
+SONG = {"a.wav": [0] * 100}
 
 
 def value_of(number, place):
@@ -29,19 +30,11 @@ def stickers_of(number):
     return [f"sticker set song a.wav name-{number}-{it} {'x' * LENGTH}" for it in range(COMMANDS)]
 
 
-def with_a_song(program, folder, limits=()):
-    daemon = Daemon(program, folder).create()
-    put_song(daemon, "a.wav", [0] * 100)
-    daemon.start(limits)
-    update(daemon.client())
-    return daemon
-
-
 def opens_what_it_wrote(program, folder):
     """Command lists of two million bytes change one value again and again. All that is kept of them is opened under the limit under which
     it was written."""
     limits = [(resource.RLIMIT_AS, MEMORY)]
-    with with_a_song(program, folder, limits) as daemon:
+    with knowing(program, folder, SONG, limits) as daemon:
         with daemon.client() as client:
             for number in range(LISTS):
                 client.do(in_one_list(values_of(number)))
@@ -61,7 +54,7 @@ def used(process):
 
 def makes_a_checkpoint_without_memory(program, folder):
     """A checkpoint is due where there is no memory for all that it writes: it is made piece by piece, and what is asked meanwhile is kept."""
-    with with_a_song(program, folder) as daemon:
+    with knowing(program, folder, SONG) as daemon:
         with daemon.client() as client:
             for number in range(20):
                 client.do(in_one_list(stickers_of(number)))
@@ -77,8 +70,7 @@ def makes_a_checkpoint_without_memory(program, folder):
                 check("the same file in use", journal.in_use() == was, False)
                 check("records", journal.records() <= 20, True)
         daemon.kill()
-        with daemon.start(), daemon.client() as client:
-            check("the volume", client.value("status", "volume"), "69")
+        daemon.start().has(volume="69")
 
 
 def left_out():

@@ -3,13 +3,12 @@ its time and of an end that does."""
 
 import os
 import signal
-import subprocess
 import time
 
 import preload
 import under
-from consoles import RECORDS, Journal
-from daemons import Daemon, check, put_song, refused, update, wait_for
+from daemons import Daemon, check, knowing, put_song, ran, refused, serving, update, wait_for
+from journal_files import RECORDS
 from scripts import Failure, write
 
 RAMP = list(range(0, 4_000, 4))
@@ -47,6 +46,17 @@ def told(daemon, *firsts):
     return [it for it in texts if it.startswith(firsts)]
 
 
+def tally(job, songs, new=0, changed=0, gone=0, left=NONE, folders=0, files=0):
+    """What is told of a job that has ended."""
+    found = f"{songs} songs, {new} of them new, {changed} changed, {gone} gone"
+    return f"update {job}: {found}; left out: {left}; not read: {folders} folders, {files} files"
+
+
+def put_no_songs(folder):
+    for name, content in (("text.wav", b"no song"), ("cut.wav", b"RIFF\0\0\0\0WAVE"), ("note.txt", b"")):
+        write(f"{folder}/music/{name}", content)
+
+
 def web_of_links(program, folder):
     """Links without a circle, through which there are 16^7 ways: a job ends, behind as many folders as it may read. What stands before and
     behind the web is found. Clients are served meanwhile, and `kill` ends it at once."""
@@ -59,10 +69,7 @@ def web_of_links(program, folder):
         for volume in range(20):
             client.do(f"setvol {volume}", "stop")
             check("the job", client.value("status", "updating_db"), "1")
-        begun = time.monotonic()
-        client.send("kill\n")
-        check("the status", daemon.end(), 0)
-        check("at once", time.monotonic() - begun < 2, True)
+        daemon.end_by(client)
     with daemon.start(), daemon.client() as client:
         update(client)
         check("songs", [it for it in client.ask("listall") if it.startswith("file: ")], ["file: a.wav", "file: z.wav"])
@@ -78,14 +85,10 @@ def web_of_links(program, folder):
 
 def job_in_the_log(program, folder):
     """What a job found, and what it left out, in one line."""
-    with Daemon(program, folder).create().start() as daemon, daemon.client() as client:
-        put_song(daemon, "a.wav", RAMP)
-        put_song(daemon, "d/b.wav", RAMP)
-        put_song(daemon, "d/e/c.wav", RAMP)
-        put_song(daemon, "stereo.wav", RAMP, channels=2)
-        put_song(daemon, "four.wav", RAMP, channels=4)
-        for name, content in (("text.wav", b"no song"), ("cut.wav", b"RIFF\0\0\0\0WAVE"), ("note.txt", b"")):
-            write(f"{folder}/music/{name}", content)
+    with serving(program, folder) as daemon, daemon.client() as client:
+        for name, channels in {"a.wav": 1, "d/b.wav": 1, "d/e/c.wav": 1, "stereo.wav": 2, "four.wav": 4}.items():
+            put_song(daemon, name, RAMP, channels=channels)
+        put_no_songs(folder)
         update(client)
         os.remove(f"{folder}/music/a.wav")
         os.symlink("nowhere", f"{folder}/music/x.wav")
@@ -102,19 +105,19 @@ def job_in_the_log(program, folder):
         daemon.kill(signal.SIGTERM)
         left = "1 not WAVE, 1 of another format, 1 broken (debug = true names them)"
         wanted = [
-            f"update 1: 4 songs, 4 of them new, 0 changed, 0 gone; left out: {left}; not read: 0 folders, 0 files",
+            tally(1, 4, new=4, left=left),
             # The link that leads nowhere may be a folder or a file, and is counted once; the one upwards isn't read, and what was known
             # below it is kept.
-            f"update 2: 4 songs, 2 of them new, 1 changed, 1 gone; left out: {left}; not read: 2 folders, 0 files",
-            f"update 3: 1 songs, 0 of them new, 0 changed, 0 gone; left out: {NONE}; not read: 0 folders, 0 files",
-            f"update 4: 0 songs, 0 of them new, 0 changed, 1 gone; left out: {NONE}; not read: 1 folders, 0 files",
+            tally(2, 4, new=2, changed=1, gone=1, left=left, folders=2),
+            tally(3, 1),
+            tally(4, 0, gone=1, folders=1),
         ]
         check("the log", told(daemon, "update ", "left out"), wanted)
 
 
 def job_that_opens_what_changed(program, folder):
     """With `stock_clients` a job opens only files whose stamp changed: the others count as songs that are there, and a `rescan` opens all."""
-    with Daemon(program, folder, **{"stock_clients:": "true"}).create().start() as daemon, daemon.client() as client:
+    with serving(program, folder, **{"stock_clients:": "true"}) as daemon, daemon.client() as client:
         for name in ("a.wav", "d/b.wav", "d/c.wav"):
             put_song(daemon, name, RAMP)
         write(f"{folder}/music/text.wav", b"no song")
@@ -130,23 +133,17 @@ def job_that_opens_what_changed(program, folder):
         wait_for("its line", lambda: told(daemon, "update 4: "))
         daemon.kill(signal.SIGTERM)
         left = "1 not WAVE, 0 of another format, 0 broken (debug = true names them)"
-        wanted = [
-            f"update 1: 3 songs, 3 of them new, 0 changed, 0 gone; left out: {left}; not read: 0 folders, 0 files",
-            f"update 2: 3 songs, 0 of them new, 0 changed, 0 gone; left out: {left}; not read: 0 folders, 0 files",
-            f"update 3: 3 songs, 0 of them new, 0 changed, 0 gone; left out: {left}; not read: 0 folders, 0 files",
-            f"update 4: 3 songs, 1 of them new, 1 changed, 1 gone; left out: {left}; not read: 1 folders, 0 files",
-        ]
-        check("the log", told(daemon, "update "), wanted)
+        counts = [{"new": 3}, {}, {}, {"new": 1, "changed": 1, "gone": 1, "folders": 1}]
+        check("the log", told(daemon, "update "), [tally(job, 3, left=left, **it) for job, it in enumerate(counts, 1)])
 
 
 def files_left_out(program, folder):
     """With `debug` each file that is left out has a line, with why."""
-    with Daemon(program, folder, **{"debug:": "true"}).create().start() as daemon, daemon.client() as client:
+    with serving(program, folder, **{"debug:": "true"}) as daemon, daemon.client() as client:
         put_song(daemon, "a.wav", RAMP)
         put_song(daemon, "d/four.wav", RAMP, channels=4)
         put_song(daemon, "fast.wav", RAMP, rate=192_001)
-        for name, content in (("text.wav", b"no song"), ("cut.wav", b"RIFF\0\0\0\0WAVE"), ("note.txt", b"")):
-            write(f"{folder}/music/{name}", content)
+        put_no_songs(folder)
         update(client)
         wait_for("its line", lambda: told(daemon, "update 1: "))
         daemon.kill(signal.SIGTERM)
@@ -157,8 +154,7 @@ def files_left_out(program, folder):
             "left out: text.wav: not a WAVE file",
         ]
         check("the log", told(daemon, "left out"), wanted)
-        tally = "1 songs, 1 of them new, 0 changed, 0 gone; left out: 1 not WAVE, 2 of another format, 1 broken"
-        check("the tally", told(daemon, "update "), [f"update 1: {tally}; not read: 0 folders, 0 files"])
+        check("the tally", told(daemon, "update "), [tally(1, 1, new=1, left="1 not WAVE, 2 of another format, 1 broken")])
 
 
 def refuse_later(counts, later):
@@ -279,16 +275,12 @@ def many_unreadable(program, folder):
     jobs = [it for it in told(daemon, "update ") if "have no line" not in it]
     check("jobs that were told, and others", len(jobs) + sum(left), 41)
     check("few of them", len(jobs) <= 10 * (seconds // 10 + 1), True)
-    counted = f"0 songs, 0 of them new, 0 changed, 0 gone; left out: {NONE}; not read: 150 folders, 0 files"
-    check("each of them", {it.partition(": ")[2] for it in jobs}, {counted})
+    check("each of them", {it.partition(": ")[2] for it in jobs}, {tally(1, 0, folders=150).partition(": ")[2]})
 
 
 def more_songs_than_fit(program, folder):
     """Songs for which there is no room are no new ones."""
-    daemon = Daemon(program, folder).create()
-    put_song(daemon, "z/known.wav", [1])
-    with daemon.start(), daemon.client() as client:
-        update(client)
+    with knowing(program, folder, {"z/known.wav": [1]}) as daemon, daemon.client() as client:
         # A file has no more than some 65,000 names.
         put_song(daemon, "a/0.wav", [1])
         for number in range(1, MOST + 3):
@@ -303,8 +295,8 @@ def more_songs_than_fit(program, folder):
         wait_for("the last line", lambda: told(daemon, "update 2: 65536 "))
         daemon.kill(signal.SIGTERM)
     wanted = [
-        f"update 1: 1 songs, 1 of them new, 0 changed, 0 gone; left out: {NONE}; not read: 0 folders, 0 files",
-        f"update 2: {MOST + 4} songs, {MOST - 1} of them new, 0 changed, 0 gone; left out: {NONE}; not read: 0 folders, 0 files",
+        tally(1, 1, new=1),
+        tally(2, MOST + 4, new=MOST - 1),
         f"update 2: {MOST} songs are known at most; 4 that were found are not",
     ]
     check("the log", told(daemon, "update "), wanted)
@@ -314,10 +306,10 @@ def large_journal(program, folder):
     """Before the opening of a large journal a line says how large it is; where it takes a second, another one how long it took (and
     others meanwhile)."""
     daemon = Daemon(program, folder).create()
-    Journal(f"{folder}/a", f"{folder}/b").fill(RECORDS - MANY, 40)
+    daemon.journal().fill(RECORDS - MANY, 40)
     size = os.path.getsize(f"{folder}/a")
-    with daemon.start(), daemon.client() as client:
-        check("the volume", client.value("status", "volume"), "40")
+    with daemon.start():
+        daemon.has(volume="40")
         daemon.kill(signal.SIGTERM)
         first, *others = [it for it in told(daemon, "the journal ") if "is being opened" not in it]
         check("before it", first, f"the journal is opened, both files have {size} bytes")
@@ -325,23 +317,34 @@ def large_journal(program, folder):
         check("behind it", [it for it in others if not it.startswith(wanted[0]) or not it.endswith(wanted[1])], [])
 
 
+def change(daemon, *volumes):
+    """Starts it, sets the volume, and ends it; what it says on standard error."""
+    daemon.lines = []
+    with daemon.start(), daemon.client() as client:
+        client.do(*(f"setvol {it}" for it in volumes))
+        daemon.kill(signal.SIGTERM)
+    return daemon.lines
+
+
+def is_served(daemon, volume, *lines):
+    """A start that says these lines, and has this volume."""
+    daemon.lines = []
+    with daemon.start():
+        daemon.has(volume=str(volume))
+        daemon.kill(signal.SIGTERM)
+    check("standard error", daemon.lines, list(lines))
+
+
 def journal_file_missing(program, folder):
     """One of the two files is away at a start, and an older state is served: a line tells that. There is none where neither or both are."""
     daemon = Daemon(program, folder, output="-").create()
-    Journal(f"{folder}/a", f"{folder}/b").fill(1, 40)
-    with daemon.start(), daemon.client() as client:
-        client.do("setvol 41", "setvol 42", "setvol 43")
-        daemon.kill(signal.SIGTERM)
-        check("standard error", daemon.lines, [])
+    daemon.journal().fill(1, 40)
+    check("standard error", change(daemon, 41, 42, 43), [])
     os.rename(f"{folder}/b", f"{folder}/away")
-    for volume, lines in (("41", [f"b: missing, and made empty: {OLDER}"]), ("41", []), ("43", [])):
-        with daemon.start(), daemon.client() as client:
-            check("the volume", client.value("status", "volume"), volume)
-            daemon.kill(signal.SIGTERM)
-        check("standard error", daemon.lines, lines)
-        daemon.lines = []
-        if volume == "41" and not lines:
-            os.rename(f"{folder}/away", f"{folder}/b")
+    is_served(daemon, 41, f"b: missing, and made empty: {OLDER}")
+    is_served(daemon, 41)
+    os.rename(f"{folder}/away", f"{folder}/b")
+    is_served(daemon, 43)
     for name in "ab":
         os.remove(f"{folder}/{name}")
     refused(program, folder, {"output": "-"}, 2, ["a, b: no journal; `mpd_daemon create CONFIG` makes one", "journal refused: 4"])
@@ -354,8 +357,8 @@ def version_told(program, folder):
     run = under.copied(program, copy)
 
     def printed():
-        ran = subprocess.run([run, "--version"], capture_output=True, text=True, check=False)
-        return ran.returncode, ran.stdout.splitlines(), ran.stderr
+        done = ran(run, "--version", text=True)
+        return done.returncode, done.stdout.splitlines(), done.stderr
 
     first = "mpd_daemon 0.1, protocol 0.23"
     check("alone", printed(), (0, [first], ""))

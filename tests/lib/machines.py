@@ -13,7 +13,7 @@ import threading
 import time
 
 import daemons
-from scripts import Failure, configuration
+from scripts import Failure, configuration, write
 
 SECTOR, BLOCK, MEGABYTES, MANY = 512, 4096, 64, 1 << 60
 # What a block of ext4's log begins with. The last one has a sum over the block, and where it is torn ext4 isn't mounted (kernel 6.1); its
@@ -186,9 +186,7 @@ def kernel_of(folder):
 
 
 def put(content, path):
-    os.makedirs(os.path.dirname(path), exist_ok=True)
-    with open(path, "wb") as file:
-        file.write(content)
+    write(path, content)
     os.chmod(path, 0o755)
 
 

@@ -157,6 +157,8 @@ class State:
 
     # Whether it is that of a daemon with `stock_clients`: the lines of `readings` tell it, and the player goes on as MPD does.
     is_wide = False
+    # What a clock told: for how many seconds the daemon has run, and when its database was last read.
+    uptime, updated = 0, 0
 
     def __init__(self, songs, key):
         self.songs, self.key = songs, key
@@ -344,8 +346,9 @@ class State:
         pairs, parts = list(words), {}
         while pairs[-2] in ("sort", "window", "position"):
             *pairs, name, parts[name] = pairs
-        found, order = self.matching(self.told(self.songs), pairs, is_folded), parts.get("sort", "file")
-        found.sort(key=lambda uri: [it.encode() for it in self.texts(uri, order.removeprefix("-"))], reverse=order.startswith("-"))
+        found = self.matching(self.told(self.songs), pairs, is_folded)
+        if order := parts.get("sort"):
+            found.sort(key=lambda uri: [it.encode() for it in self.texts(uri, order.removeprefix("-"))], reverse=order.startswith("-"))
         # Past the end a window has nothing.
         first, end = span(parts.get("window", "0:"), max(len(found), int(parts.get("window", "0:").split(":")[0])))
         return found[first:end], parts.get("position")

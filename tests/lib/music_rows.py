@@ -5,7 +5,7 @@ The FLAC files of tests/data were made by `flac` 1.4.2 (-8 and -5) of samples th
 import os
 import shutil
 
-from daemons import Daemon, check, put_song, update
+from daemons import check, make_pipe, put_song, serving, update
 from scripts import read, write
 from sounds import Recorded, Song, check_front, pieces_of, play_to_the_end, runs_of, sound_of
 from waves import chunk, info, wave_of
@@ -84,9 +84,8 @@ def check_library(client, songs):
 
 def other_forms(program, folder):
     """WAVE files of other widths and FLAC files are found with their tags, heard at 16 bits, from any place, and known after a kill."""
-    os.makedirs(folder)
-    os.mkfifo(f"{folder}/sound")
-    with Daemon(program, folder, **ALL).create().start() as daemon:
+    make_pipe(folder)
+    with serving(program, folder, **ALL) as daemon:
         put_files(daemon)
         recorded = Recorded(f"{folder}/sound")
         with daemon.client() as client:
@@ -117,7 +116,7 @@ LEFT_OUT = [
 
 def formats_taken_back(program, folder):
     """Without `formats` there are WAVE files of 16-bit PCM alone, as before; songs that were others go with the next update."""
-    with Daemon(program, folder, **{**ALL, "form": ""}).create().start() as daemon:
+    with serving(program, folder, **{**ALL, "form": ""}) as daemon:
         put_files(daemon)
         with daemon.client() as client:
             update(client)

@@ -6,13 +6,11 @@ import os
 import resource
 import signal
 import stat
-import subprocess
 import time
 
 import preload
-from consoles import Journal
-from daemons import LIMIT, Daemon, check, put_song, refused, update, wait_for
-from log_rows import EMPTIED, told
+from daemons import Daemon, check, knowing, make_pipe, put_song, refused, update, wait_for
+from log_rows import EMPTIED, change, is_served, told
 from scripts import write
 
 RAMP = list(range(-20_000, 20_000, 4))
@@ -27,13 +25,6 @@ IN_USE = "it was the file in use, and has lost what it had: put both files of a 
 SALVAGE = "; `look --salvage` writes what the other one has, an older state"
 
 
-def run(program, folder, *words, **how):
-    """How a task ends, and what it writes on both streams."""
-    words = [program, *words]
-    done = subprocess.run(words, cwd=folder, capture_output=True, timeout=LIMIT, check=False, text=True, **how)
-    return done.returncode, done.stdout.splitlines(), done.stderr.splitlines()
-
-
 def mode_of(path):
     return oct(stat.S_IMODE(os.stat(path).st_mode))
 
@@ -41,15 +32,14 @@ def mode_of(path):
 def modes_of_its_files(program, folder):
     """Journal and sound are their owner's alone, whatever the umask leaves."""
     daemon = Daemon(program, folder)
-    check("create", run(program, folder, "create", "c.toml", umask=0)[0], 0)
+    check("create", daemon.outcome("create", umask=0)[0], 0)
     with daemon.start():
         check("modes", [mode_of(f"{folder}/{it}") for it in ("a", "b", "sound")], ["0o600"] * 3)
 
 
 def two_daemons_at_one_pipe(program, folder):
     """A pipe is one daemon's alone; that a reader has it locked is in nobody's way."""
-    os.makedirs(folder)
-    os.mkfifo(f"{folder}/sound")
+    make_pipe(folder)
     reader = os.open(f"{folder}/sound", os.O_RDONLY | os.O_NONBLOCK)
     fcntl.flock(reader, fcntl.LOCK_EX)
     with Daemon(program, folder).create().start() as daemon:
@@ -74,19 +64,13 @@ def terminal_that_nobody_reads(program, folder):
         with daemon.client() as client:
             update(client)
             client.do("setvol 30", "update", "ping")
-            begun = time.monotonic()
-            client.send("kill\n")
-            check("the status", daemon.end(), 0)
-            check("at once", time.monotonic() - begun < 5, True)
+            daemon.end_by(client, 5)
     os.close(master)
 
 
 def files_of_a_limited_length(program, folder):
     """A file can't grow past the limit of the process: that is a disk that is full, and an output that fails; no signal ends the daemon."""
-    daemon = Daemon(program, folder).create()
-    put_song(daemon, "a.wav", RAMP * 10)
-    with daemon.start(), daemon.client() as client:
-        update(client)
+    with knowing(program, folder, {"a.wav": RAMP * 10}) as daemon, daemon.client() as client:
         client.do("add a.wav")
         daemon.kill()
     limits = [(resource.RLIMIT_FSIZE, os.path.getsize(f"{folder}/a") + 300)]
@@ -173,24 +157,6 @@ def slow_disk(program, folder):
     check("behind it", len(told(daemon, "the journal was opened in ")), 1)
 
 
-def change(daemon, *volumes):
-    """Starts it, sets the volume, and ends it; what it says on standard error."""
-    daemon.lines = []
-    with daemon.start(), daemon.client() as client:
-        client.do(*(f"setvol {it}" for it in volumes))
-        daemon.kill(signal.SIGTERM)
-    return daemon.lines
-
-
-def is_served(daemon, volume, *lines):
-    """A start that says these lines, and has this volume."""
-    daemon.lines = []
-    with daemon.start(), daemon.client() as client:
-        check("the volume", client.value("status", "volume"), str(volume))
-        daemon.kill(signal.SIGTERM)
-    check("standard error", daemon.lines, list(lines))
-
-
 def empty(path):
     """What a file has; it has nothing then."""
     with open(path, "r+b") as file:
@@ -203,7 +169,7 @@ def journal_file_emptied(program, folder):
     """A journal file has lost its bytes, as a copy on a full disk. What a crash may have left is served; where it was the file in use, a
     start is refused, and where it wasn't, it is served with a line."""
     daemon = Daemon(program, folder, output="-").create()
-    journal = Journal(f"{folder}/a", f"{folder}/b")
+    journal = daemon.journal()
     is_served(daemon, 100)
     older = f"bytes: {EMPTIED}"
     journal.fill(1, 40)
@@ -216,7 +182,7 @@ def journal_file_emptied(program, folder):
     check("the file in use", os.path.basename(journal.in_use()), "a")
     # The one not in use.
     content = empty(f"{folder}/b")
-    status, out, said = run(program, folder, "look", "c.toml")
+    status, out, said = daemon.outcome("look")
     check("look", (status, out[:4], said), (0, ["whole: yes", "layout: 2", "file: a", "generation: 3"], [f"b: {SHORT}"]))
     is_served(daemon, 53, f"b: it has 0 {older}")
     write(f"{folder}/b", content[:31])
@@ -224,7 +190,7 @@ def journal_file_emptied(program, folder):
     write(f"{folder}/b", content)
     # The one in use.
     kept = empty(f"{folder}/a")
-    check("look", run(program, folder, "look", "c.toml"), (4, [], [f"a: {IN_USE}{SALVAGE}", "journal not whole"]))
+    check("look", daemon.outcome("look"), (4, [], [f"a: {IN_USE}{SALVAGE}", "journal not whole"]))
     refused(program, folder, {"output": "-"}, 2, [f"a: {IN_USE}{SALVAGE}", "journal refused: 5"])
     os.rename(f"{folder}/a", f"{folder}/away")
     refused(program, folder, {"output": "-"}, 2, [f"a: {IN_USE}{SALVAGE}", "journal refused: 5"])
@@ -232,9 +198,9 @@ def journal_file_emptied(program, folder):
     os.rename(f"{folder}/away", f"{folder}/a")
     # What the other one has.
     printed = ["new: all 4096 records of b", "put it in the place of b, and remove the other file"]
-    check("salvage", run(program, folder, "look", "--salvage", "new", "c.toml"), (0, printed, []))
+    check("salvage", daemon.outcome("look", "--salvage", "new"), (0, printed, []))
     there = "new: File exists (os error 17)"
-    check("salvage again", run(program, folder, "look", "--salvage", "new", "c.toml"), (3, [], [there, "disk fault"]))
+    check("salvage again", daemon.outcome("look", "--salvage", "new"), (3, [], [there, "disk fault"]))
     # The other one shut, as by a checkpoint that was cut short.
     with open(f"{folder}/b", "r+b") as file:
         file.write(b"\0")
@@ -258,9 +224,9 @@ def damaged_record(program, folder):
         file.seek(third + 5)
         file.write(b"\xff")
     damaged = f"a, b: damaged at byte {third} of the file in use"
-    check("look", run(program, folder, "look", "c.toml"), (4, [], [damaged, "journal not whole"]))
+    check("look", daemon.outcome("look"), (4, [], [damaged, "journal not whole"]))
     printed = [f"new: 2 records of a, which is damaged at byte {third}", "put it in the place of a"]
-    check("salvage", run(program, folder, "look", "--salvage", "new", "c.toml"), (0, printed, []))
+    check("salvage", daemon.outcome("look", "--salvage", "new"), (0, printed, []))
     check("its mode", mode_of(f"{folder}/new"), "0o600")
     os.rename(f"{folder}/new", f"{folder}/a")
     is_served(daemon, 41)
@@ -268,11 +234,11 @@ def damaged_record(program, folder):
 
 def file_with_a_hole(program, folder):
     """A journal file has far more bytes than memory behind its closing gate: a look reads as far as that."""
-    Daemon(program, folder).create()
-    wanted = run(program, folder, "look", "c.toml")
+    daemon = Daemon(program, folder).create()
+    wanted = daemon.outcome("look")
     os.truncate(f"{folder}/a", 1 << 38)
 
     def limit():
         resource.setrlimit(resource.RLIMIT_AS, (1 << 30, 1 << 30))
 
-    check("look", run(program, folder, "look", "c.toml", preexec_fn=limit), wanted)
+    check("look", daemon.outcome("look", preexec_fn=limit), wanted)

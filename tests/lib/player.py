@@ -119,6 +119,20 @@ class Player(readings.Readable):
         if is_paused:
             self.halt(number)
 
+    def shuffle(self, text="0:"):
+        first, end = model.span(text, len(self.queue))
+        if not self.is_wide or end - first < 2:
+            super().shuffle(text)
+        elif self.state == STOP:
+            super().shuffle(text)
+            self.halt()
+        else:
+            is_held = self.current is not None and first <= self.place(self.current) < end
+            super().shuffle(text)
+            if is_held:
+                at = self.place(self.current)
+                self.edit(model.moved(self.queue, at, at + 1, first))
+
     # The output's reports.
 
     def fed(self, ticket, frames):

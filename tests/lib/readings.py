@@ -36,7 +36,8 @@ class Readable(model.State):
         return sum(self.songs[it].frames * 1000 // 8000 for it in uris) // 1000
 
     def stats(self):
-        return f"artists: 0\nalbums: 0\nsongs: {len(self.songs)}\ndb_playtime: {self.milliseconds(self.songs)}\n"
+        times = f"uptime: {self.uptime}\ndb_update: {self.updated}\n" if self.is_wide else ""
+        return f"artists: 0\nalbums: 0\nsongs: {len(self.songs)}\ndb_playtime: {self.milliseconds(self.songs)}\n{times}"
 
     def paths(self):
         """The folders and the songs as they are told: by the bytes of their paths, a folder before a song; or folder by folder."""

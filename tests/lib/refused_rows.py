@@ -6,7 +6,7 @@ import re
 import shutil
 import subprocess
 
-import consoles
+import journal_files
 import preload
 import refusals
 import scripts
@@ -263,7 +263,7 @@ class Program:
         for name in "d/b", "d/c":
             scripts.write(f"{place.folder}/music/{name}.wav", scripts.wave(200, ["IART=Anna"]))
         if self.is_old:
-            consoles.Journal(*(f"{place.folder}/{it}" for it in FILES)).make_old()
+            journal_files.Journal(*(f"{place.folder}/{it}" for it in FILES)).make_old()
         self.files = {it: read(f"{place.folder}/{it}") for it in FILES}
         before = self.looked(place)
         self.put_back(place)
@@ -299,7 +299,7 @@ class Program:
     def told(self, answer):
         """The answer, also with the line that the journal was brought to layout 2 in front on standard error, and without."""
         status, out, told = answer
-        line = consoles.MIGRATED.decode()
+        line = journal_files.MIGRATED.decode()
         return [answer, (status, out, line + told), (status, out, told.removeprefix(line))] if self.is_old else [answer]
 
     def refused(self):
@@ -326,7 +326,7 @@ class Conversation(Program):
 
     def __init__(self, program):
         super().__init__(program, "\n".join(ASKED))
-        self.name, self.words, self.answers = "program: a stock client", ["console", "--stock-clients"], None
+        self.name, self.words, self.answers = "program: a stock client", ["console"], None
 
     def begin(self, place):
         numbers = super().begin(place)

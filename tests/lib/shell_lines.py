@@ -21,7 +21,7 @@ SONGS = ("Anna Bell/First Light/01 Dawn.wav", "Anna Bell/First Light/02 Noon.wav
 LINKED, COPIED = ("crates", "contrib", "tests", "start", "mpd_daemon.example.toml"), ("crates.txt", "HANDLES")
 # What isn't run, by its first words, and why.
 LEFT_OUT = {
-    "tests/kills": "the part `kills` has it",
+    "tests/crash": "the part `kill` has it",
     "tests/run": "it would run this test too",
     "tests/gate": "it proves every crate",
     "apt": "it changes the machine",

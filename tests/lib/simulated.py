@@ -13,7 +13,7 @@ import player
 import sessions
 import speaker
 from sessions import FIXED
-from streams import Finding, Over, StockStream, Stream, Turn, shown
+from streams import Finding, Over, Stream, Turn, shown
 
 KEY = bytes(32)
 # The songs that there may be, each with its frames and its title. What is found again is told by what clients read, which is milliseconds:
@@ -28,11 +28,6 @@ GROUP = 64
 BROKEN, OUT_OF_MEMORY = "refused 42 broken by a disk fault", "refused 43 out of memory"
 # What the driver prints of a scan that found no memory.
 LEFT_OFF = "left off"
-# In an episode this part of the clients are stock clients, of a daemon that knows the named subset. What these ask beside what all do; what
-# takes several steps is in tests/stock.
-STOCK = (0, 0.5)
-FOREIGN = """status|stats|commands|lsinfo|lsinfo /|listall d|listallinfo d/e|listall d/c.wav|listplaylists|tagtypes|list Artist|list Genre
-find Album ""|find Artist ""|search filename WAV|playlistfind date ""|playlistinfo|currentsong""".replace("\n", "|")
 
 
 def unlike(found, greeting, asked):
@@ -71,8 +66,6 @@ class Episode:
         # Whether a checkpoint may become due: a group ends before it.
         self.is_near = False
         self.last_client, self.contents = 0, (b"", b"")
-        # This part of the clients to come are stock clients.
-        self.stock = 0
 
     def do(self, *lines):
         try:
@@ -92,7 +85,6 @@ class Episode:
 
     def begin(self):
         draw = random.Random(f"{self.seed}")
-        self.stock = draw.choice(STOCK)
         self.clients = sessions.Clients(player.Player({}, KEY))
         self.is_silent("folder d/e", *(self.put_song(uri, *SONGS[uri], draw) for uri in SONGS), "make_loop", "reads")
         self.connect(None)
@@ -116,9 +108,8 @@ class Episode:
     def connect(self, draw):
         if len(self.streams) < MOST_CLIENTS:
             self.last_client += 1
-            word, kind = ("stock", StockStream) if draw and draw.random() < self.stock else ("connect", Stream)
-            self.is_silent(f"{word} {self.last_client}")
-            self.streams[self.last_client] = kind(self.last_client)
+            self.is_silent(f"connect {self.last_client}")
+            self.streams[self.last_client] = Stream(self.last_client)
             self.waiting.append(self.last_client)
 
     def ask_alone(self, *requests):
@@ -151,21 +142,6 @@ class Episode:
             return sessions.listing(changes.listed(state, draw), draw.random() < 0.5)
         return sessions.line(changes.change(state, draw))
 
-    def foreign(self, draw):
-        """What a stock client asks, alone or in a list."""
-        lines = [draw.choice(FOREIGN.split("|")) for _ in range(draw.choice([1, 1, 1, 2, 3]))]
-        if len(lines) > 1:
-            lines = [draw.choice(["command_list_begin", "command_list_ok_begin"]), *lines, "command_list_end"]
-        return sessions.Request("".join(f"{it}\n" for it in lines).encode())
-
-    def of_stock(self, draw):
-        """What a stock client asks, in a list where it would take several steps."""
-        if draw.random() < 0.5:
-            return self.foreign(draw)
-        request = self.request(draw)
-        is_alone = len(request.commands) == 1 and not request.is_list
-        return sessions.listing(request.commands, True) if is_alone and request.commands[0][0] == "shuffle" else request
-
     def send(self, draw):
         streams = self.open_streams()
         # One that waits mostly goes on to wait.
@@ -177,7 +153,7 @@ class Episode:
         stream = draw.choice(streams)
         if len(stream.unsent) < MOST_WAITING and (not stream.unsent or draw.random() < 0.5):
             for _ in range(draw.choice([1, 1, 1, 2, 3])):
-                stream.ask(self.of_stock(draw) if isinstance(stream, StockStream) else self.request(draw))
+                stream.ask(self.request(draw))
         return self.is_silent(f"{stream.number}>- {shown(stream.next_piece(draw))}")
 
     def slow(self, draw):
@@ -435,8 +411,8 @@ class Episode:
     # Memory that is refused.
 
     def scarce(self, draw):
-        """One allocation of a turn, the player or a scan is refused, in a life in which no disk fails, where no stock client is there."""
-        if self.may_break or any(isinstance(it, StockStream) for it in self.streams.values()):
+        """One allocation of a turn, the player or a scan is refused, in a life in which no disk fails."""
+        if self.may_break:
             return self.turn(draw)
         line, take, take_scarce = draw.choice([("turn", lambda it: self.take_turn(Turn(it)), self.scarce_turn)] * 3 + [
             ("play_once", self.take_play, self.scarce_play), ("scan_once", self.take_scan, self.scarce_scan)])

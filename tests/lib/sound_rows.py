@@ -11,7 +11,7 @@ import signal
 import struct
 import time
 
-from daemons import check, put_song, serving, update, wait_for
+from daemons import check, knowing, wait_for
 from scripts import Failure, write
 from sounds import HEAD, LONG, MOST_FRAMES, SONGS, SOUND, Recorded, Song, Sound, changes_of_player, check_front, files_in, fill_the_pipe
 from sounds import pending, pieces_of, play_to_the_end, playing, random_song, runs_of, sound_of, stream_of
@@ -346,21 +346,15 @@ def read_of(pipe, count):
 
 def songs_without_frames(program, folder):
     """A queue in which nothing is heard makes at most ten changes a second, and `kill` ends it at once."""
-    with serving(program, folder) as daemon:
-        put_song(daemon, "empty.wav", [])
-        with daemon.client() as client, daemon.client() as waiting:
-            update(client)
-            client.do("add empty.wav", "repeat 1", "play")
-            for settings in ([], ["random 1"]):
-                client.do(*settings)
-                count = changes_of_player(waiting, 3)
-                # The pause comes behind two songs.
-                if not 1 <= count <= 32:
-                    raise Failure(f"{settings}: {count} changes in three seconds")
-            begun = time.monotonic()
-            client.send("kill\n")
-            check("the status", daemon.end(), 0)
-            check("at once", time.monotonic() - begun < 5, True)
+    with knowing(program, folder, {"empty.wav": []}) as daemon, daemon.client() as client, daemon.client() as waiting:
+        client.do("add empty.wav", "repeat 1", "play")
+        for settings in ([], ["random 1"]):
+            client.do(*settings)
+            count = changes_of_player(waiting, 3)
+            # The pause comes behind two songs.
+            if not 1 <= count <= 32:
+                raise Failure(f"{settings}: {count} changes in three seconds")
+        daemon.end_by(client, 5)
 
 
 def left_out():

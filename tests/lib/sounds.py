@@ -15,7 +15,7 @@ import termios
 import threading
 import time
 
-from daemons import LIMIT, check, put_song, serving, update, wait_for
+from daemons import LIMIT, check, make_pipe, put_song, serving, update, wait_for
 from scripts import Failure, read
 from waves import samples, wave_of
 
@@ -51,8 +51,7 @@ def sound_of(song, percent=100, first=0):
 
 def playing(program, folder, songs, **settings):
     """A daemon that plays into a pipe, with these songs in its queue."""
-    os.makedirs(folder, exist_ok=True)
-    os.mkfifo(f"{folder}/sound")
+    make_pipe(folder)
     daemon = serving(program, folder, **{"form": "wave", **settings})
     for it in songs:
         put_song(daemon, it.name, it.values, rate=it.rate, channels=it.channels)

@@ -10,7 +10,7 @@ import tempfile
 
 from daemons import LIMIT, check, wait_for
 from scripts import Failure
-from translator import MODIFIED_LINE
+from stock_rows import MODIFIED_LINE
 
 # Words of mpc, how it ends, and what it prints of both streams, of the songs and the queue of lib/conversations.py; None where it is a line
 # of the player's state, in which versions of mpc differ.
@@ -55,7 +55,7 @@ MPC = [
     ("-f %file% playlist", 0, "d/é é.wav|d/e.wav"),
 ]
 A = {"file": "b.wav", "title": "Alpha", "artist": "One", "album": "First", "date": "2001", "genre": "Folk"}
-SOUND = {"last-modified": MODIFIED_LINE.decode().split(": ")[1], "format": "8000:16:1", "time": "2", "duration": "2.000"}
+SOUND = {"last-modified": MODIFIED_LINE.split(": ")[1], "format": "8000:16:1", "time": "2", "duration": "2.000"}
 A |= {"comment": "a note", **SOUND}
 C = {"file": "d/é é.wav", "artist": "One", "album": "Second", **SOUND}
 NAKED = {"file": "b.wav", "pos": "1", "id": "2", **SOUND}

@@ -1,14 +1,22 @@
 """What stock clients ask for beyond the daemon's own commands, and the lines that they must be told: of the table in docs/PROTOCOL.md, over
 the songs of lib/conversations.py. A text in place of lines is a refusal's code and text."""
 
-from translator import DECODERS, MODIFIED_LINE, TAGS
+TAGS = """Title Artist Album Date Genre Comment ArtistSort AlbumSort AlbumArtist AlbumArtistSort Track Name OriginalDate Composer
+ComposerSort Performer Conductor Work Movement MovementNumber Ensemble Location Grouping Disc Label MUSICBRAINZ_ARTISTID MUSICBRAINZ_ALBUMID
+MUSICBRAINZ_ALBUMARTISTID MUSICBRAINZ_TRACKID MUSICBRAINZ_RELEASETRACKID MUSICBRAINZ_WORKID""".split()
+# When each song's file was last changed, in seconds, and what is told of it.
+MODIFIED = 1_600_000_000
+MODIFIED_LINE = "Last-Modified: 2020-09-13T12:26:40Z"
+# What is told of what the daemon reads by itself.
+DECODERS = """plugin: wave|suffix: wav|suffix: wave|mime_type: audio/wav|mime_type: audio/x-wav|mime_type: audio/wave
+plugin: flac|suffix: flac|mime_type: audio/flac|mime_type: audio/x-flac""".replace("\n", "|").split("|")
 
 A = """file: b.wav|Format: 8000:16:1|Title: Alpha|Artist: One|Album: First|Date: 2001|Genre: Folk|Comment: a note|Time: 2|duration: 2.000"""
 B = "file: a.wav|Format: 8000:16:1|Time: 2|duration: 2.000"
 C = "file: d/é é.wav|Format: 8000:16:1|Artist: One|Album: Second|Time: 2|duration: 2.000"
 E = 'file: d/e.wav|Format: 8000:16:1|Title: say "x"|Artist: Two|Album: First|Comment: Title: no|Time: 2|duration: 2.000'
 Z = "file: d/c.wav|Format: 8000:16:1|Title: Zoë|Genre: Folk|Time: 2|duration: 2.000"
-A, B, C, E, Z = ([name, MODIFIED_LINE.decode(), *lines] for name, *lines in (it.split("|") for it in (A, B, C, E, Z)))
+A, B, C, E, Z = ([name, MODIFIED_LINE, *lines] for name, *lines in (it.split("|") for it in (A, B, C, E, Z)))
 # Behind each playlist.
 NO_TIME = "Last-Modified: 1970-01-01T00:00:00Z"
 ROOT = [*B, *A, "directory: d", "playlist: old", NO_TIME]
@@ -237,7 +245,9 @@ ROWS = [
     ("find \"(file != a.wav)\"", "2 bad filter"),
     ("find \"(file != 'a.wav'\"", "2 bad filter"),
     ("find \"(file != 'a.wav' AND (Artist == 'One'))\"", "2 bad filter"),
-    ("find \"(file contains 'a')\"", "2 bad filter"),
+    ("find \"(file contains 'd/')\"", [*Z, *E, *C]),
+    ("count \"(FileName contains '')\"", ["songs: 5", "playtime: 10"]),
+    ("find \"(file contains a)\"", "2 bad filter"),
     # What no shuffle is.
     ("shuffle x", "2 bad argument 1"),
     ("shuffle :3", "2 bad argument 1"),

@@ -4,8 +4,6 @@ import collections
 import copy
 import re
 
-import sessions
-import translator
 
 TURN_WORDS = re.compile(r"(event|before|collected|refused|no memory at) (\d+)|nothing done, refused (43)")
 READ, GOT, CLOSED = re.compile(r"(\d+) read (\d+) (\d+)"), re.compile(r"(\d+)< (.*)", re.DOTALL), re.compile(r"(\d+) closed")
@@ -96,49 +94,6 @@ class Stream:
         if not self.due.startswith(text):
             raise Finding(f"client {self.number} got {text[:300]!r}, and is owed {self.due[:300]!r}")
         self.due = self.due[len(text) :]
-
-
-class StockStream(Stream):
-    """The connection of a stock client: the daemon is asked what a plain translator (lib/translator.py) makes of what it sends, and it is
-    owed what that makes of the answers."""
-
-    KIND = "requests for stock clients"
-
-    def __init__(self, number):
-        super().__init__(number)
-        self.translator, self.text = translator.Translator(is_wide=True), b""
-
-    def copied(self):
-        other = copy.copy(self)
-        other.translator = copy.deepcopy(self.translator)
-        return other
-
-    def ask(self, request):
-        self.unsent, self.text, self.made = self.unsent + request.text, self.text + request.text, self.made + len(request.text)
-
-    def taken(self, count):
-        """What the daemon is asked once so many bytes more were read."""
-        self.read += count
-        piece, self.text = self.text[:count], self.text[count:]
-        return [*natives(self.translator.ask(piece))]
-
-    def give(self, text, has_asked):
-        super().give(self.translator.answer(text), has_asked)
-
-
-def natives(text):
-    """The requests of these bytes, of which those of a list stand there whole."""
-    listed = None
-    for line in text.split(b"\n")[:-1]:
-        if line == b"command_list_ok_begin":
-            listed = []
-        elif line == b"command_list_end" and listed is not None:
-            yield sessions.listing(listed, True)
-            listed = None
-        elif listed is not None:
-            listed.append(translator.words_of(line))
-        else:
-            yield sessions.fixed(line) or sessions.line(translator.words_of(line))
 
 
 class Turn:

@@ -2,7 +2,7 @@
 
 import contextlib
 
-from daemons import Daemon, check, put_song, standing_still, update
+from daemons import check, knowing, standing_still
 from scripts import Failure
 
 # So many clients ask at once for so many passes over a queue of so many entries; a folder has so many songs.
@@ -24,11 +24,8 @@ def passes_of(client, seen):
 
 def crowd_keeps_nobody_waiting(program, folder):
     """A `ping` beside clients that ask for a minute's work at once is answered before most of that is done."""
-    daemon = Daemon(program, folder, **{"stock_clients:": "true"}).create()
-    for number in range(SONGS):
-        put_song(daemon, f"a/{number}.wav", [0] * 100)
-    with daemon.start(), daemon.client() as client, contextlib.ExitStack() as stack:
-        update(client)
+    daemon = knowing(program, folder, {f"a/{it}.wav": [0] * 100 for it in range(SONGS)}, **{"stock_clients:": "true"})
+    with daemon, daemon.client() as client, contextlib.ExitStack() as stack:
         for _ in range(ENTRIES // SONGS):
             client.do("add a")
         crowd = [(stack.enter_context(daemon.client()), [b""]) for _ in range(CROWD)]

@@ -2,11 +2,12 @@
 use Rattle.std.proofs.Common.{◌≡◌, ℕ, List, [], ◌∷◌, ap, ◌∙◌, sym, refl, Some, None, Bool, true, false, cond, IfOk, Ok, Err, subst}
 use Rattle.std.specs.Prelude.{Option, Result, option_map, ◌||◌}
 use Rattle.std.specs.List.{find}
-use Rattle.std.proofs.lemmas.List.Elements.{All-head, All-tail}
+use Rattle.std.proofs.lemmas.List.Elements.{All-head, All-tail, All-weaker}
 use Rattle.std.specs.Str.{bytes_eq}
+use Rattle.std.specs.String.{string_bytes}
 use Rattle.std.specs.declared.vec.Vec.{Vec}
 use Rattle.song_files.specs.Folder.{File, bytes_at, stamp_at}
-use Rattle.song_files.specs.Listing.{IsListing, IsNoFile, has_first, begins_with, behind, entries_of}
+use Rattle.song_files.specs.Listing.{AreStamped, IsListing, IsNoFile, IsStampAt, has_first, begins_with, behind, entries_of, path_in}
 use Rattle.song_files.specs.declared.folder.FolderEntry.{FolderEntry}
 use Rattle.as_wave.specs.Forms.{as_wave, waves_of, IsPlain, ArePlain}
 use Rattle.as_wave.specs.declared.forms.Forms.{Forms}
@@ -83,3 +84,14 @@ plain_at forms (file ∷ files) path bytes each found =
     plain_chosen forms file (bytes_eq file.path path) (find (λ (f : File). bytes_eq f.path path) files) bytes
     (All-head (λ (f : File). IsPlain forms f.bytes) file files each)
     (plain_at forms files path bytes (All-tail (λ (f : File). IsPlain forms f.bytes) file files each)) found
+
+-- what a listing tells of the files is what is told of those below it
+pub stamped_too : {E A : Type 0} (r : Result (Option (Vec FolderEntry A)) E) (forms : Forms) (files : List File) (folder : List ℕ)
+    → IfOk r (λ listing. AreStamped files folder (entries_of listing))
+    → IfOk r (λ listing. AreStamped (waves_of forms files) folder (entries_of listing))
+stamped_too (Ok listing) forms files folder h =
+    All-weaker (λ (entry : FolderEntry). IsStampAt files (path_in folder (string_bytes entry.name)) entry.stamp)
+    (λ (entry : FolderEntry). IsStampAt (waves_of forms files) (path_in folder (string_bytes entry.name)) entry.stamp)
+    (λ entry told_there stamp is. stamp_at-waves_of forms files (path_in folder (string_bytes entry.name)) ∙ told_there stamp is)
+    (entries_of listing) h
+stamped_too (Err e) forms files folder h = tt

@@ -65,21 +65,6 @@ impl Session {
         self.output.len()
     }
 
-    /// What is still to be sent.
-    pub fn queued(&self) -> &[u8]
-        ensures { result.now ≡ self.now.queued }
-    {
-        self.output.as_slice()
-    }
-
-    /// Lets go of the first bytes of what is still to be sent, which were taken.
-    pub fn take_queued(&mut self, count: usize)
-        requires { count ≤ length self.old.queued }
-        ensures { self.new ≡ record self.old { queued = drop count self.old.queued } }
-    {
-        drop_sent(&mut self.output, count);
-    }
-
     /// Takes the next piece of the stream, and gives the requests that are whole now, without their newlines.
     ///
     /// The requests before a line of more than `LINE_LIMIT` bytes, or before a command that makes its list longer than

@@ -6,8 +6,7 @@ use Rattle.std.specs.Str.{is_utf8, str_eq_ignore_ascii_case}
 use Rattle.profile.specs.declared.profile.Profile.{Profile}
 use Rattle.song_files.specs.declared.tag.Tag.{Tag}
 use Rattle.filter_expr.specs.declared.subject.Subject.TheVariants.{OfTag, Any, File}
-use Rattle.filter_expr.specs.declared.subject.Comparison.TheVariants.{Pair}
-use Rattle.filter_expr.specs.Names.{tag_named, knows_times, key_named}
+use Rattle.filter_expr.specs.Names.{tag_named, knows_times, is_file_name, key_named}
 use Rattle.filter_expr.specs.Parts.{Fault, opening, begins_so}
 use Rattle.filter_expr.specs.Parts.Fault.{Bad, Unknown, Deep}
 use Rattle.filter_expr.specs.Reading.{whole}
@@ -15,7 +14,7 @@ use Rattle.filter_expr.specs.Times.{time_in}
 use Rattle.filter_expr.specs.Tree.{Tree}
 use Rattle.filter_expr.specs.Tree.Tree.{Test, Base, Since, And}
 use Rattle.filter_expr.specs.Words.{Refusal, ◌>>=◌, in_word, read_in_word, alone, pair_of, half_pair, more_pairs}
-use Rattle.filter_expr.specs.Words.{pairs_of}
+use Rattle.filter_expr.specs.Words.{paired, pairs_of}
 use Rattle.filter_expr.specs.Words.{filter_of}
 use Rattle.filter_expr.specs.Words.Refusal.{BadFilter, UnknownTag}
 use Rattle.command_text.specs.BadFilters.{IsInWord, IsRefusedSo}
@@ -64,22 +63,22 @@ PairCases profile n name value =
 of_tag : (profile : Profile) (n : ℕ) (name value : Word) (tag : Tag) → tag_named profile name ≡ Some tag
     → (good : Bool) → is_utf8 value ≡ good → PairCases profile n name value
 unfolding pair_of key_named
-of_tag profile n name value tag e true g = inr (inr (Test (OfTag tag) Pair value, rw (e, g) refl))
+of_tag profile n name value tag e true g = inr (inr (Test (OfTag tag) (paired profile) value, rw (e, g) refl))
 of_tag profile n name value tag e false g = inr (inl (rw (e, g) refl))
 
 -- the names beside those of tags, one after the other
 of_other : (profile : Profile) (n : ℕ) (name value : Word) → tag_named profile name ≡ None
     → (any : Bool) → str_eq_ignore_ascii_case name (codes "any") ≡ any
-    → (file : Bool) → str_eq_ignore_ascii_case name (codes "file") ≡ file
+    → (file : Bool) → is_file_name profile name ≡ file
     → (base : Bool) → str_eq_ignore_ascii_case name (codes "base") ≡ base
     → (since : Bool) → (knows_times profile && str_eq_ignore_ascii_case name (codes "modified-since")) ≡ since
     → (good : Bool) → is_utf8 value ≡ good → (time : Option ℕ) → time_in value ≡ time → PairCases profile n name value
 unfolding half_pair pair_of key_named
 of_other profile n name value e true a file f base b since s true g time t =
-    inr (inr (Test Any Pair value, rw (e, a, g) refl))
+    inr (inr (Test Any (paired profile) value, rw (e, a, g) refl))
 of_other profile n name value e true a file f base b since s false g time t = inr (inl (rw (e, a, g) refl))
 of_other profile n name value e false a true f base b since s true g time t =
-    inr (inr (Test File Pair value, rw (e, a, f, g) refl))
+    inr (inr (Test File (paired profile) value, rw (e, a, f, g) refl))
 of_other profile n name value e false a true f base b since s false g time t = inr (inl (rw (e, a, f, g) refl))
 of_other profile n name value e false a false f true b since s true g time t =
     inr (inr (Base value, rw (e, a, f, b, g) refl))
@@ -98,7 +97,7 @@ pair_cases profile n name value = by_tag (tag_named profile name) refl
     by_tag (Some tag) e = of_tag profile n name value tag e (is_utf8 value) refl
     by_tag None e =
         of_other profile n name value e (str_eq_ignore_ascii_case name (codes "any")) refl
-        (str_eq_ignore_ascii_case name (codes "file")) refl (str_eq_ignore_ascii_case name (codes "base")) refl
+        (is_file_name profile name) refl (str_eq_ignore_ascii_case name (codes "base")) refl
         (knows_times profile && str_eq_ignore_ascii_case name (codes "modified-since")) refl (is_utf8 value) refl (time_in value) refl
 
 -- a tag that is none is refused, whatever stands behind it

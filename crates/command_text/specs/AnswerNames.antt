@@ -57,3 +57,7 @@ database_lines artists albums songs milliseconds = concat (
     ∷ number_pair (codes "songs") songs
     ∷ pair (codes "db_playtime") (whole_seconds milliseconds)
     ∷ [])
+
+-- for how many seconds the daemon has run, and when its database was last updated
+abbrev pub times_lines : ℕ → ℕ → List ℕ
+times_lines uptime db_update = number_pair (codes "uptime") uptime ++ number_pair (codes "db_update") db_update

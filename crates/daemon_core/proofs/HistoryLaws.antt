@@ -225,6 +225,8 @@ keeps_acted earlier s (events.Broken ticket cause) refused rises agree =
 keeps_acted earlier s (events.Batch job changes) refused rises agree =
     keeps_happened earlier s (when_found job changes s.machine) rises agree
 keeps_acted earlier s (events.ScanDone job) refused rises agree = keeps_happened earlier s (when_scanned job s.machine) rises agree
+keeps_acted earlier s (events.Clock time) refused rises agree =
+    record { rises = rises; agree = agree; quiet = λ d e. absurd (false≢true e) }
 
 reported_number : (changed : Subsystems) (w : Watched) → let v = reported (grown changed w) in v.client ≡ w.client
 reported_number changed w = client-reported (grown changed w) (is_empty (due (grown changed w)))

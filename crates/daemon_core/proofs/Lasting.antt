@@ -22,7 +22,8 @@ use Rattle.machine_core.specs.Meaning.{Meaning, Meant}
 use Rattle.machine_core.specs.Reports.{when_broken, when_ended, when_fed}
 use Rattle.machine_core.specs.Scanning.{when_found, when_scanned}
 use Rattle.machine_core.specs.Size.{max_request_bytes, within}
-use Rattle.machine_core.specs.State.{MachineState, started}
+use Rattle.machine_core.specs.State.{MachineState, started, told_time}
+use Rattle.machine_core.specs.declared.clock.ClockTime.{ClockTime}
 use Rattle.player_core.specs.declared.failure.BrokenCause.{BrokenCause}
 use Rattle.song_db.specs.declared.change.RowChange.{RowChange}
 use Rattle.state_codec.specs.SavedState.{SavedState}
@@ -41,7 +42,7 @@ use Rattle.daemon_core.specs.declared.event.Event.TheVariants as events
 use Rattle.daemon_core.specs.declared.outcome.Ending.{Ending}
 use Rattle.daemon_core.specs.declared.outcome.Ending.TheVariants.{Answered, Closed, Killed, Waits}
 
--- what each command, each report of the output and each event of a scan keeps
+-- what each command, each report of the output, each event of a scan and each of a clock keeps
 pub record IsKept (P : MachineState → Type 0) : Type 0 where
   pub command : (mask : TagMask) (command : Command) (m : MachineState) (x : Meaning) → P m → meaning mask command m ≡ Ok x → P x.after
   pub fed : (ticket frames : ℕ) (m : MachineState) → P m → P (when_fed ticket frames m).after
@@ -49,6 +50,7 @@ pub record IsKept (P : MachineState → Type 0) : Type 0 where
   pub broken : (ticket : ℕ) (cause : BrokenCause) (m : MachineState) → P m → P (when_broken ticket cause m).after
   pub found : (job : ℕ) (changes : List RowChange) (m : MachineState) → P m → P (when_found job changes m).after
   pub scanned : (job : ℕ) (m : MachineState) → P m → P (when_scanned job m).after
+  pub clocked : (time : ClockTime) (m : MachineState) → P m → P (told_time time m)
 
 module _ (P : MachineState → Type 0) (kept : IsKept P) where
   abbrev Keeps : MachineState → Meant → Type 0
@@ -178,6 +180,7 @@ module _ (P : MachineState → Type 0) (kept : IsKept P) where
   acted_lasts s (events.Broken ticket cause) refused = kept.broken ticket cause s.machine
   acted_lasts s (events.Batch job changes) refused = kept.found job changes s.machine
   acted_lasts s (events.ScanDone job) refused = kept.scanned job s.machine
+  acted_lasts s (events.Clock time) refused = kept.clocked time s.machine
 
   pub lasts : (saved : SavedState) → P (started saved) → (history : List Entry) → P (replay saved history).machine
   unfolding replay step

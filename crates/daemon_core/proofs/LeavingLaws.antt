@@ -271,6 +271,7 @@ acted_leaves s (events.Ended ticket) refused rises = happened_leaves s (when_end
 acted_leaves s (events.Broken ticket cause) refused rises = happened_leaves s (when_broken ticket cause s.machine)
 acted_leaves s (events.Batch job changes) refused rises = happened_leaves s (when_found job changes s.machine)
 acted_leaves s (events.ScanDone job) refused rises = happened_leaves s (when_scanned job s.machine)
+acted_leaves s (events.Clock time) refused rises = all_stay s.clients (acted s (events.Clock time) refused) refl refl
 
 pub closed : (kept : SavedState) (history : List Entry) (entry : Entry) →
     (stepped (replay kept history) entry).closes ≡ missing
@@ -338,6 +339,7 @@ acted_closes s (events.Ended ticket) refused h = refl
 acted_closes s (events.Broken ticket cause) refused h = refl
 acted_closes s (events.Batch job changes) refused h = refl
 acted_closes s (events.ScanDone job) refused h = refl
+acted_closes s (events.Clock time) refused h = refl
 
 pub own : (s : State) (event : Event) (refused : Option ℕ) → (step s event refused).ended ≡ false →
     ClosesNoOther event (step s event refused).closes

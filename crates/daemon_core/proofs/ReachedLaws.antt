@@ -125,6 +125,7 @@ acted_reaches s (events.Ended ticket) refused = inr refl
 acted_reaches s (events.Broken ticket cause) refused = inr refl
 acted_reaches s (events.Batch job changes) refused = inr refl
 acted_reaches s (events.ScanDone job) refused = inr refl
+acted_reaches s (events.Clock time) refused = inr refl
 
 settles_reaches : (refused : Option ℕ) (a free : Acted) → ActReaches refused a free →
     (let now = settles a in now.refused_at ≡ refused) ⊎ (settles a ≡ settles free)
@@ -171,6 +172,7 @@ acted_names_none s (events.Ended ticket) = refl
 acted_names_none s (events.Broken ticket cause) = refl
 acted_names_none s (events.Batch job changes) = refl
 acted_names_none s (events.ScanDone job) = refl
+acted_names_none s (events.Clock time) = refl
 
 pub step_names_none : (s : State) (event : Event) → (step s event None).refused_at ≡ None
 unfolding step

@@ -224,6 +224,7 @@ acted_rebuilds law s (events.Ended ticket) refused reported = happened_rebuilds 
 acted_rebuilds law s (events.Broken ticket cause) refused reported = happened_rebuilds s (when_broken ticket cause s.machine) reported
 acted_rebuilds law s (events.Batch job changes) refused reported = happened_rebuilds s (when_found job changes s.machine) reported
 acted_rebuilds law s (events.ScanDone job) refused reported = happened_rebuilds s (when_scanned job s.machine) reported
+acted_rebuilds law s (events.Clock time) refused reported = record { state = refl; fits = none_fits s.machine }
 
 pub step_rebuilds : (law : CommandsRebuild) (s : State) (event : Event) (refused : Option ℕ) → IsReported event s.machine →
     let r = step s event refused in WholeRebuilt s.machine r.after.machine r.ops

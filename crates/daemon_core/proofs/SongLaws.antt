@@ -39,6 +39,8 @@ forms_song = record {
   says = λ text m h. h;
   edits = λ op text m fits free other. op_song op m;
   replaces = λ name m free other h. h;
+  shuffles = λ id span m free h. h;
+  stops = λ span m free h. refl;
   begins = λ job text m own h. h;
   moves = λ step m knows. moves_song step m;
   turns = turn_song;
@@ -77,6 +79,7 @@ song_kept = record {
   found = λ job changes m. if_running m (finds (telling m.saved.songs (kept_changes m.saved.profile changes)) m) (is_running job m)
       (found_song (telling m.saved.songs (kept_changes m.saved.profile changes)) m);
   scanned = λ job m. if_running m (ends_scan m) (is_running job m) (λ h. h);
+  clocked = λ time m h. h;
 }
 
 pub song : (kept : SavedState) (history : List Entry) → has_song (replay kept history).machine.player ≡ true

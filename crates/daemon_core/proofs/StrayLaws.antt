@@ -18,6 +18,7 @@ use Rattle.machine_core.specs.Reports.{when_fed, when_ended, when_broken, fed_in
 use Rattle.machine_core.specs.Scanning.{is_running, finds, kept_changes, telling, ends_scan}
 use Rattle.machine_core.specs.State.{MachineState, settings_of}
 use Rattle.machine_core.specs.Steps.{steps}
+use Rattle.machine_core.specs.declared.clock.ClockTime.{ClockTime}
 use Rattle.machine_core.specs.declared.job.Job.{Job}
 use Rattle.machine_core.proofs.SameParts.{lists_decide, stickers_decide, text_itself}
 use Rattle.play_queue.specs.declared.entry.Entry.{Entry as QueueEntry}
@@ -41,7 +42,7 @@ use Rattle.state_codec.specs.SavedState.{SavedState}
 use Rattle.daemon_core.specs.Quiet.{is_quiet}
 use Rattle.daemon_core.specs.Replay.{Entry, stepped, replay}
 use Rattle.daemon_core.specs.Session.{nothing, happened}
-use Rattle.daemon_core.specs.State.{State, with_clients, with_masks}
+use Rattle.daemon_core.specs.State.{State, clocked, with_clients, with_masks}
 use Rattle.daemon_core.specs.Step.{Stepped, connects_client, requested_by, waiting_of, acted, settles, step}
 use Rattle.daemon_core.specs.Stray.{is_stop, is_late, is_over, is_stray, stays}
 use Rattle.daemon_core.specs.declared.event.Event.{Event}
@@ -253,6 +254,13 @@ acted_stray s (events.Batch job changes) refused h =
     (not_running job s.machine h)
 acted_stray s (events.ScanDone job) refused h =
     ap (λ b. happened s (cond b (ends_scan s.machine) (nothing_happens s.machine))) (not_running job s.machine h)
+acted_stray s (events.Clock time) refused h = absurd (false≢true h)
+
+-- a clock tells the time, and nobody is due
+pub clock_told : (kept : SavedState) (history : List Entry) (time : ClockTime) (refused : Option ℕ) →
+    step (replay kept history) (events.Clock time) refused ≡ stays (clocked time (replay kept history))
+unfolding step
+clock_told kept history time refused = nothing_told (clocked time (replay kept history)) (quiet kept history)
 
 pub stray : (kept : SavedState) (history : List Entry) (entry : Entry) → is_stray (replay kept history) entry.event ≡ true →
     stepped (replay kept history) entry ≡ stays (replay kept history)

@@ -232,6 +232,7 @@ acted_tells known s (events.Broken ticket cause) refused =
     record { none = known.broken_none ticket cause s.machine; same = known.broken_same ticket cause s.machine }
 acted_tells known s (events.Batch job changes) refused = found_tells known job changes s.machine
 acted_tells known s (events.ScanDone job) refused = scanned_tells job s.machine
+acted_tells known s (events.Clock time) refused = silent s.machine
 
 pub no_op : (known : MachineTells) (s : State) (event : Event) (refused : Option ℕ) → IsSavedState s.machine.saved
     → LeavesSaved s event refused → (step s event refused).ops ≡ []

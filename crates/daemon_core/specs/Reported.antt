@@ -15,7 +15,7 @@ pub record IsRebuilt (m : MachineState) (h : Happening) : Type 0 where
   pub state : all_applied h.ops m.saved ≡ Some h.after.saved
   pub fits : length (body_bytes m.saved.profile h.ops) ≤ max_request_bytes
 
--- nothing is said here of clients and their requests
+-- nothing is said here of clients and their requests, nor of a clock
 abbrev pub IsReported : Event → MachineState → Type 0
 IsReported (events.Connect c) m = Unit {0}
 IsReported (events.Request c request) m = Unit {0}
@@ -25,3 +25,4 @@ IsReported (events.Ended ticket) m = IsRebuilt m (when_ended ticket m)
 IsReported (events.Broken ticket cause) m = IsRebuilt m (when_broken ticket cause m)
 IsReported (events.Batch job changes) m = IsRebuilt m (when_found job changes m)
 IsReported (events.ScanDone job) m = IsRebuilt m (when_scanned job m)
+IsReported (events.Clock time) m = Unit {0}

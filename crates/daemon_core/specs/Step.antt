@@ -19,7 +19,7 @@ use Rattle.daemon_core.specs.Pending.{Moment}
 use Rattle.daemon_core.specs.Run.{ran, unspent}
 use Rattle.daemon_core.specs.Session.{Acted, nothing, happened, output, without, waiting, runs}
 use Rattle.daemon_core.specs.Seen.{tags_seen, unmasked}
-use Rattle.daemon_core.specs.State.{State, with_clients, with_masks}
+use Rattle.daemon_core.specs.State.{State, clocked, with_clients, with_masks}
 use Rattle.daemon_core.specs.declared.event.Event.{Event}
 use Rattle.daemon_core.specs.declared.event.Event.TheVariants as events
 use Rattle.daemon_core.specs.declared.outcome.Output.{Output}
@@ -74,6 +74,7 @@ acted s (events.Ended ticket) refused = happened s (when_ended ticket s.machine)
 acted s (events.Broken ticket cause) refused = happened s (when_broken ticket cause s.machine)
 acted s (events.Batch job changes) refused = happened s (when_found job changes s.machine)
 acted s (events.ScanDone job) refused = happened s (when_scanned job s.machine)
+acted s (events.Clock time) refused = nothing (clocked time s)
 
 abbrev pub line_if : Bool → Subsystem → List ℕ
 line_if true x = changed_line x

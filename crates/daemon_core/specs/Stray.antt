@@ -34,6 +34,7 @@ is_stray s (events.Ended ticket) = is_late ticket s.machine.player
 is_stray s (events.Broken ticket cause) = is_late ticket s.machine.player
 is_stray s (events.Batch job changes) = is_over job s.machine.job
 is_stray s (events.ScanDone job) = is_over job s.machine.job
+is_stray s (events.Clock time) = false
 
 -- the state stays, and nothing is given out
 abbrev pub stays : State → Stepped

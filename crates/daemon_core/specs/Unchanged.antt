@@ -57,3 +57,4 @@ LeavesSaved s (events.Broken ticket cause) refused = (when_broken ticket cause s
 LeavesSaved s (events.Batch job changes) refused =
     is_running job s.machine ≡ true → telling s.machine.saved.songs (kept_changes s.machine.saved.profile changes) ≡ []
 LeavesSaved s (events.ScanDone job) refused = Unit {0}
+LeavesSaved s (events.Clock time) refused = Unit {0}

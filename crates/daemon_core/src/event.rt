@@ -1,6 +1,7 @@
-// The events of the one history: what clients, the player's output and the scan brought, in the order in which they are handled.
+// The events of the one history: what clients, the player's output, the scan and a clock brought, in the order in which they are handled.
 use command_text::Request;
 use idle_masks::ClientId;
+use machine_core::ClockTime;
 use player_core::BrokenCause;
 use state_codec::Changes;
 
@@ -23,4 +24,6 @@ pub enum Event {
     Batch { job: u32, changes: Changes },
     /// The scan of this job is over.
     ScanDone { job: u32 },
+    /// A clock tells the time: it comes before what needs it.
+    Clock(ClockTime),
 }

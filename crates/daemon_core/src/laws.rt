@@ -7,13 +7,15 @@ ghost use Rattle.daemon_core.specs.Quiet.{is_quiet, NobodyIsDue};
 ghost use Rattle.daemon_core.specs.Replay.{Entry, stepped, replay, moments, reply};
 ghost use Rattle.daemon_core.specs.Running.{has_song};
 ghost use Rattle.daemon_core.specs.Session.{numbers_of};
-ghost use Rattle.daemon_core.specs.State.{State};
+ghost use Rattle.daemon_core.specs.State.{State, clocked};
 ghost use Rattle.daemon_core.specs.Step.{Stepped, step};
 ghost use Rattle.daemon_core.specs.Stray.{is_stray, stays};
 ghost use Rattle.daemon_core.specs.Unchanged.{LeavesSaved};
 ghost use Rattle.daemon_core.specs.declared.event.Event.{Event};
+ghost use Rattle.daemon_core.specs.declared.event.Event.TheVariants as events;
 ghost use Rattle.machine_core.specs.Looks.{max_looks};
 ghost use Rattle.machine_core.specs.Sound.{IsIn, AreOwn, IsWithinSong};
+ghost use Rattle.machine_core.specs.declared.clock.ClockTime.{ClockTime};
 ghost use Rattle.state_codec.specs.SavedState.{SavedState, IsSavedState};
 
 /// Along any history the outputs of each event are the reply that the history gives: its own client's answer, and for
@@ -54,6 +56,12 @@ pub fn nobody_waits_for_what_is_pending()
 pub fn stray_events_do_nothing()
     ensures { (kept : SavedState) (history : List Entry) (entry : Entry) → is_stray (replay kept history) entry.event ≡ true
         → stepped (replay kept history) entry ≡ stays (replay kept history) }
+{}
+
+/// After any history a clock's event gives nothing out, makes no op, and changes nothing but the time.
+pub fn a_clock_tells_the_time_alone()
+    ensures { (kept : SavedState) (history : List Entry) (time : ClockTime) (refused : Option ℕ)
+        → step (replay kept history) (events.Clock time) refused ≡ stays (clocked time (replay kept history)) }
 {}
 
 /// After any history an event closes those that were connected before it, didn't go by themselves and aren't connected after it,

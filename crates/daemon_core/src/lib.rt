@@ -18,6 +18,7 @@ mod watching;
 
 pub use daemon::Core;
 pub use event::Event;
+pub use machine_core::ClockTime;
 pub use no_memory::NoMemory;
 pub use outcome::{Bytes, Outcome, Output};
 pub use recover::RecoverError;

@@ -56,6 +56,10 @@ impl CoreParts {
                 let happened = self.machine.scan_done(alloc, job);
                 Ok(Handled::happened(alloc, happened))
             }
+            Event::Clock(time) => {
+                self.machine.set_clock(time);
+                Ok(Handled::nothing(alloc))
+            }
         }
     }
 }

@@ -4,10 +4,12 @@ use Rattle.std.specs.Prelude.{Option, Result, option_map, unwrap_or, ◌||◌, i
 use Rattle.song_files.specs.declared.folder.FileStamp.{FileStamp}
 use Rattle.std.specs.List.{find}
 use Rattle.std.specs.Str.{bytes_eq}
+use Rattle.std.proofs.lemmas.List.Elements.{All-weaker}
 use Rattle.std.specs.Cmp.Lexicographic.{bytes_decides}
+use Rattle.std.specs.String.{string_bytes}
 use Rattle.std.specs.declared.vec.Vec.{Vec}
 use Rattle.song_files.specs.Folder.{File, bytes_at, stamp_at, file_at}
-use Rattle.song_files.specs.Listing.{IsListing, IsNoFile, has_first, begins_with, behind, entries_of}
+use Rattle.song_files.specs.Listing.{AreStamped, IsListing, IsNoFile, IsStampAt, has_first, begins_with, behind, entries_of, path_in}
 use Rattle.song_files.specs.declared.folder.FolderEntry.{FolderEntry}
 use Rattle.decoded_files.specs.DecodedFiles.{decoded, decoded_bytes, is_asked}
 
@@ -131,3 +133,14 @@ pub decoder_is : {E X : Type 0} (r : Result (Option X) E) (told told' : Told) (f
 decoder_is {X} r told told' files path bytes honest same h =
     subst (λ (t : Told). IfOk r (λ (file : Option X). MatchOption file (bytes_at (decoded t files) path ≡ None)
     (λ f. (bytes_at (decoded t files) path ≡ Some (bytes f)) × honest f))) (sym same) h
+
+-- what a listing tells of the files is what is told of those below it
+pub stamped_too : {E A : Type 0} (r : Result (Option (Vec FolderEntry A)) E) (told : Told) (files : List File) (folder : List ℕ)
+    → IfOk r (λ listing. AreStamped files folder (entries_of listing))
+    → IfOk r (λ listing. AreStamped (decoded told files) folder (entries_of listing))
+stamped_too (Ok listing) told files folder h =
+    All-weaker (λ (entry : FolderEntry). IsStampAt files (path_in folder (string_bytes entry.name)) entry.stamp)
+    (λ (entry : FolderEntry). IsStampAt (decoded told files) (path_in folder (string_bytes entry.name)) entry.stamp)
+    (λ entry told_there stamp is. stamp_at-decoded told files (path_in folder (string_bytes entry.name)) ∙ told_there stamp is)
+    (entries_of listing) h
+stamped_too (Err e) told files folder h = tt

@@ -3,7 +3,7 @@ use crate::fault::Fault;
 use crate::rows::batch_of;
 use crate::words::{first_number, first_word, number};
 use command_text::{Line, Lines, Request};
-use daemon_core::Event;
+use daemon_core::{ClockTime, Event};
 use player_core::BrokenCause;
 use song_db::RowChange;
 use std::alloc::{AllocError, Global};
@@ -26,6 +26,16 @@ fn cause_of(word: &str) -> Result<BrokenCause, Fault> {
         "output" => Ok(BrokenCause::Output),
         _ => Err(Fault::NoDirective),
     }
+}
+
+// A clock that tells when the daemon began, for how long it has run, and the time of day.
+fn clock_of(began: u64, rest: &str) -> Result<ClockTime, Fault> {
+    let (uptime, rest) = first_number(rest)?;
+    Ok(ClockTime {
+        began,
+        uptime,
+        now: number(rest)?,
+    })
 }
 
 fn job_of(number: u64) -> u32 {
@@ -55,6 +65,7 @@ pub fn event_of(alloc: Global, collected: &mut Vec<RowChange>, text: &str) -> Re
             changes: batch_of(collected)?,
         }),
         "scanned" => Ok(Event::ScanDone { job: job_of(first) }),
+        "clock" => Ok(Event::Clock(clock_of(first, rest)?)),
         _ => Err(Fault::NoDirective),
     }
 }

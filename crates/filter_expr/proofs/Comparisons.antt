@@ -6,9 +6,6 @@ use Rattle.std.proofs.lemmas.Bool.{and_parts}
 use Rattle.std.specs.List.{list_all}
 use Rattle.filter_expr.specs.declared.operator.Operator.{Operator}
 use Rattle.filter_expr.specs.declared.operator.Operator.TheVariants as operators
-use Rattle.song_files.specs.declared.tag.Tag.{Tag}
-use Rattle.filter_expr.specs.declared.subject.Subject.{Subject}
-use Rattle.filter_expr.specs.declared.subject.Subject.TheVariants.{OfTag, Any, File}
 use Rattle.filter_expr.specs.Grammar.{AreBlanks, IsGap, IsOperator}
 use Rattle.filter_expr.specs.Parts.{Fault, ◌>>=◌, is_blank, without_blanks, begins_so, equals_sign, exclamation, word_at, gap_at}
 use Rattle.filter_expr.specs.Parts.{between_gaps}
@@ -70,35 +67,35 @@ bare_again before word after tail b bare = ap without_blanks (regroup before wor
     ∙ blanks_again before (word ++ (after ++ tail)) b ∙ bare
 
 -- an operator is read so
-abbrev pub FoundOperator : Subject → List ℕ → Operator × List ℕ → Type 0
-FoundOperator subject text x = (middle : List ℕ) × IsOperator subject x.0 middle × (text ≡ middle ++ without_blanks x.1)
+abbrev pub FoundOperator : Bool → List ℕ → Operator × List ℕ → Type 0
+FoundOperator only text x = (middle : List ℕ) × IsOperator only x.0 middle × (text ≡ middle ++ without_blanks x.1)
 
-equal_found : (subject : Subject) (text : List ℕ) (x : Operator × List ℕ)
-    → (word_at (codes "==") (without_blanks text) >>= λ rest. Ok (operators.Equal, rest)) ≡ Ok x → FoundOperator subject text x
-equal_found subject text x h =
+equal_found : (only : Bool) (text : List ℕ) (x : Operator × List ℕ)
+    → (word_at (codes "==") (without_blanks text) >>= λ rest. Ok (operators.Equal, rest)) ≡ Ok x → FoundOperator only text x
+equal_found only text x h =
     let read = bind_ok {A = List ℕ} {B = Operator × List ℕ} (word_at (codes "==") (without_blanks text))
     (λ rest. Ok (operators.Equal, rest)) x h in
     let sign = signed (codes "==") text read.0 read.1 in
-    subst (FoundOperator subject text) (ok_same (operators.Equal, read.0) x read.2) (
+    subst (FoundOperator only text) (ok_same (operators.Equal, read.0) x read.2) (
       sign.0 ++ (codes "==" ++ sign.1),
       (sign.0, sign.1, sign.2, sign.3, refl),
       sign.4,
     )
 
 unequal_found : (text : List ℕ) (x : Operator × List ℕ)
-    → (word_at (codes "!=") (without_blanks text) >>= λ rest. Ok (operators.Unequal, rest)) ≡ Ok x → FoundOperator Any text x
+    → (word_at (codes "!=") (without_blanks text) >>= λ rest. Ok (operators.Unequal, rest)) ≡ Ok x → FoundOperator false text x
 unequal_found text x h =
     let read = bind_ok {A = List ℕ} {B = Operator × List ℕ} (word_at (codes "!=") (without_blanks text))
     (λ rest. Ok (operators.Unequal, rest)) x h in
     let sign = signed (codes "!=") text read.0 read.1 in
-    subst (FoundOperator Any text) (ok_same (operators.Unequal, read.0) x read.2) (
+    subst (FoundOperator false text) (ok_same (operators.Unequal, read.0) x read.2) (
       sign.0 ++ (codes "!=" ++ sign.1),
       (sign.0, sign.1, sign.2, sign.3, refl),
       sign.4,
     )
 
 contains_found : (text : List ℕ) (x : Operator × List ℕ)
-    → (between_gaps (codes "contains") text >>= λ rest. Ok (operators.Contains, rest)) ≡ Ok x → FoundOperator Any text x
+    → (between_gaps (codes "contains") text >>= λ rest. Ok (operators.Contains, rest)) ≡ Ok x → FoundOperator false text x
 contains_found text x h =
     let read = bind_ok {A = List ℕ} {B = Operator × List ℕ} (between_gaps (codes "contains") text) (λ rest. Ok (operators.Contains, rest)) x
     h in
@@ -106,7 +103,7 @@ contains_found text x h =
     let parts : text ≡ (sign.0 ++ (codes "contains" ++ sign.1)) ++ without_blanks read.0 =
     sign.4 ∙ sym (regroup sign.0 (codes "contains") sign.1 read.0)
     ∙ ap (λ (s : List ℕ). (sign.0 ++ (codes "contains" ++ sign.1)) ++ s) (sym sign.5) in
-    subst (FoundOperator Any text) (ok_same (operators.Contains, read.0) x read.2) (
+    subst (FoundOperator false text) (ok_same (operators.Contains, read.0) x read.2) (
       sign.0 ++ (codes "contains" ++ sign.1),
       (sign.0, sign.1, sign.2, sign.3, refl),
       parts,
@@ -119,35 +116,22 @@ other_at text inner =
     (cond (begins_so exclamation inner) (word_at (codes "!=") inner >>= λ rest. Ok (operators.Unequal, rest))
     (between_gaps (codes "contains") text >>= λ rest. Ok (operators.Contains, rest)))
 
-other_found : (text : List ℕ) (x : Operator × List ℕ) → other_at text (without_blanks text) ≡ Ok x → FoundOperator Any text x
+other_found : (text : List ℕ) (x : Operator × List ℕ) → other_at text (without_blanks text) ≡ Ok x → FoundOperator false text x
 other_found text x h = by_cases (begins_so equals_sign (without_blanks text)) (begins_so exclamation (without_blanks text)) h
   where
     by_cases : (e u : Bool)
         → cond e (word_at (codes "==") (without_blanks text) >>= λ rest. Ok (operators.Equal, rest))
         (cond u (word_at (codes "!=") (without_blanks text) >>= λ rest. Ok (operators.Unequal, rest))
         (between_gaps (codes "contains") text >>= λ rest. Ok (operators.Contains, rest))) ≡ Ok x
-        → FoundOperator Any text x
-    by_cases true u k = equal_found Any text x k
+        → FoundOperator false text x
+    by_cases true u k = equal_found false text x k
     by_cases false true k = unequal_found text x k
     by_cases false false k = contains_found text x k
 
--- all tags are compared alike
-as_tag : (tag : Tag) (operator : Operator) (middle : List ℕ) → IsOperator Any operator middle → IsOperator (OfTag tag) operator middle
-as_tag tag operators.Equal middle h = h
-as_tag tag operators.Unequal middle h = h
-as_tag tag operators.Contains middle h = h
-
-as_any : (tag : Tag) (operator : Operator) (middle : List ℕ) → IsOperator (OfTag tag) operator middle → IsOperator Any operator middle
-as_any tag operators.Equal middle h = h
-as_any tag operators.Unequal middle h = h
-as_any tag operators.Contains middle h = h
-
-pub operator_found : (subject : Subject) (text : List ℕ) (x : Operator × List ℕ) → operator_at subject text ≡ Ok x
-    → FoundOperator subject text x
+pub operator_found : (only : Bool) (text : List ℕ) (x : Operator × List ℕ) → operator_at only text ≡ Ok x → FoundOperator only text x
 unfolding operator_at
-operator_found (OfTag tag) text x h = let found = other_found text x h in (found.0, as_tag tag x.0 found.0 found.1, found.2)
-operator_found Any text x h = other_found text x h
-operator_found File text x h = equal_found File text x h
+operator_found false text x h = other_found text x h
+operator_found true text x h = equal_found true text x h
 
 -- an operator is read again
 abbrev pub OperatorAgain : Result (Operator × List ℕ) Fault → Operator → List ℕ → Type 0
@@ -173,7 +157,7 @@ contains_bare more = refl
 with_operator : Operator → Result (List ℕ) Fault → Result (Operator × List ℕ) Fault
 with_operator operator read = read >>= λ rest. Ok (operator, rest)
 
-other_again : (operator : Operator) (middle tail : List ℕ) → IsOperator Any operator middle
+other_again : (operator : Operator) (middle tail : List ℕ) → IsOperator false operator middle
     → OperatorAgain (other_at (middle ++ tail) (without_blanks (middle ++ tail))) operator tail
 unfolding with_operator
 other_again operators.Equal middle tail h =
@@ -196,20 +180,19 @@ other_again operators.Contains middle tail h =
     ∙ spaced_again (codes "contains") h.0 h.1 tail h.2 h.3 (contains_bare (h.1 ++ tail)) in
     (without_blanks tail, ap (other_at (middle ++ tail)) here ∙ ap (with_operator operators.Contains) read, bare tail)
 
-pub operator_again : (subject : Subject) (operator : Operator) (middle tail : List ℕ) → IsOperator subject operator middle
-    → OperatorAgain (operator_at subject (middle ++ tail)) operator tail
+pub operator_again : (only : Bool) (operator : Operator) (middle tail : List ℕ) → IsOperator only operator middle
+    → OperatorAgain (operator_at only (middle ++ tail)) operator tail
 unfolding operator_at with_operator
-operator_again (OfTag tag) operator middle tail h = other_again operator middle tail (as_any tag operator middle h)
-operator_again Any operator middle tail h = other_again operator middle tail h
-operator_again File operators.Equal middle tail h =
+operator_again false operator middle tail h = other_again operator middle tail h
+operator_again true operators.Equal middle tail h =
     let here = middle_bare middle h.0 (codes "==") h.1 tail h.4 h.2 (equal_bare (h.1 ++ tail)) in (
       h.1 ++ tail,
       ap (λ (s : List ℕ). with_operator operators.Equal (word_at (codes "==") s)) here
           ∙ ap (with_operator operators.Equal) (word_again (codes "==") (h.1 ++ tail)),
       blanks_again h.1 tail h.3,
     )
-operator_again File operators.Unequal middle tail h = absurd h
-operator_again File operators.Contains middle tail h = absurd h
+operator_again true operators.Unequal middle tail h = absurd h
+operator_again true operators.Contains middle tail h = absurd h
 
 -- a name ends in front of an operator
 middle_ends : (middle before word after tail : List ℕ) → middle ≡ before ++ (word ++ after) → EndsName (before ++ ((word ++ after) ++ tail))
@@ -221,7 +204,7 @@ gap_ends : (gap tail : List ℕ) → IsGap gap → EndsName (gap ++ tail)
 gap_ends [] tail h = absurd (omega (arith, h.1))
 gap_ends (b ∷ gap) tail h = blank_ends b (and_parts (is_blank b) (list_all is_blank gap) h.0).0
 
-any_ends : (operator : Operator) (middle tail : List ℕ) → IsOperator Any operator middle → EndsName (middle ++ tail)
+any_ends : (operator : Operator) (middle tail : List ℕ) → IsOperator false operator middle → EndsName (middle ++ tail)
 any_ends operators.Equal middle tail h =
     middle_ends middle h.0 (codes "==") h.1 tail h.4 (ends_blanks h.0 ((codes "==" ++ h.1) ++ tail) h.2 refl)
 any_ends operators.Unequal middle tail h =
@@ -229,10 +212,9 @@ any_ends operators.Unequal middle tail h =
 any_ends operators.Contains middle tail h =
     middle_ends middle h.0 (codes "contains") h.1 tail h.4 (gap_ends h.0 ((codes "contains" ++ h.1) ++ tail) h.2)
 
-pub operator_ends : (subject : Subject) (operator : Operator) (middle tail : List ℕ) → IsOperator subject operator middle
+pub operator_ends : (only : Bool) (operator : Operator) (middle tail : List ℕ) → IsOperator only operator middle
     → EndsName (middle ++ tail)
-operator_ends (OfTag tag) operator middle tail h = any_ends operator middle tail (as_any tag operator middle h)
-operator_ends Any operator middle tail h = any_ends operator middle tail h
-operator_ends File operators.Equal middle tail h = any_ends operators.Equal middle tail h
-operator_ends File operators.Unequal middle tail h = absurd h
-operator_ends File operators.Contains middle tail h = absurd h
+operator_ends false operator middle tail h = any_ends operator middle tail h
+operator_ends true operators.Equal middle tail h = any_ends operators.Equal middle tail h
+operator_ends true operators.Unequal middle tail h = absurd h
+operator_ends true operators.Contains middle tail h = absurd h

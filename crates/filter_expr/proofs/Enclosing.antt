@@ -12,7 +12,8 @@ use Rattle.filter_expr.specs.Names.{key_named}
 use Rattle.filter_expr.specs.Parts.{Fault, ◌>>=◌, opening, closing, exclamation, begins_so, without_blanks, byte_at, between_gaps, key_at}
 use Rattle.filter_expr.specs.Parts.{value_at}
 use Rattle.filter_expr.specs.Parts.Fault.{Bad, Deep}
-use Rattle.filter_expr.specs.Reading.{Reader, operator_at, since_of, test_tree, test_of, closed, test_at, negation_at, others_at, group_at, inside_at}
+use Rattle.filter_expr.specs.Reading.{Reader, is_only_equal, operator_at, since_of, test_tree, test_of, closed, test_at, negation_at, others_at, group_at}
+use Rattle.filter_expr.specs.Reading.{inside_at}
 use Rattle.filter_expr.specs.Reading.{expression_at, is_nil, alone, most_open, whole}
 use Rattle.filter_expr.specs.Times.{time_in}
 use Rattle.filter_expr.specs.Tree.{Tree}
@@ -65,7 +66,7 @@ glued name behind middle inner quoted rest e f =
     ap (λ (s : List ℕ). name ++ s) (e ∙ ap (λ (s : List ℕ). middle ++ s) f) ∙ sym (regroup name middle quoted rest)
 
 named_found : (profile : Profile) (name : List ℕ) (key : Key) (behind : List ℕ) (x : Tree × List ℕ) → key_named profile name ≡ Some key
-    → test_of key behind ≡ Ok x → FoundBy (SpellsSimple profile) (name ++ behind) x
+    → test_of profile key behind ≡ Ok x → FoundBy (SpellsSimple profile) (name ++ behind) x
 unfolding test_of
 named_found profile name keys.Base behind x named h =
     let read = bind_ok {A = List ℕ × List ℕ} {B = Tree × List ℕ} (value_at (without_blanks behind)) (λ value. Ok (Base value.0, value.1)) x
@@ -112,11 +113,11 @@ named_found profile name keys.Since behind x named h =
       glued name behind blanks.0 bare value.0 read.0.1 blanks.2 value.2,
     )
 named_found profile name (keys.Of subject) behind x named h =
-    let first = bind_ok {A = Operator × List ℕ} {B = Tree × List ℕ} (operator_at subject behind)
+    let first = bind_ok {A = Operator × List ℕ} {B = Tree × List ℕ} (operator_at (is_only_equal subject profile) behind)
     (λ operator. value_at (without_blanks operator.1) >>= λ value. Ok (test_tree subject operator.0 value.0, value.1)) x h in
     let read = bind_ok {A = List ℕ × List ℕ} {B = Tree × List ℕ} (value_at (without_blanks first.0.1))
     (λ value. Ok (test_tree subject first.0.0 value.0, value.1)) x first.2 in
-    let operator = operator_found subject behind first.0 first.1 in
+    let operator = operator_found (is_only_equal subject profile) behind first.0 first.1 in
     let value = value_found (without_blanks first.0.1) read.0.0 read.0.1 read.1 in
     subst (FoundBy (SpellsSimple profile) (name ++ behind)) (ok_same (test_tree subject first.0.0 read.0.0, read.0.1) x read.2) (
       name ++ (operator.0 ++ value.0),
@@ -141,8 +142,8 @@ test_found : (profile : Profile) (text : List ℕ) (x : Tree × List ℕ) → te
     → FoundClosed (SpellsSimple profile) text x
 unfolding test_at
 test_found profile text x h =
-    let key = bind_ok {A = Key × List ℕ} {B = Tree × List ℕ} (key_at profile text) (λ key. test_of key.0 key.1 >>= closed) x h in
-    let test = bind_ok {A = Tree × List ℕ} {B = Tree × List ℕ} (test_of key.0.0 key.0.1) closed x key.2 in
+    let key = bind_ok {A = Key × List ℕ} {B = Tree × List ℕ} (key_at profile text) (λ key. test_of profile key.0 key.1 >>= closed) x h in
+    let test = bind_ok {A = Tree × List ℕ} {B = Tree × List ℕ} (test_of profile key.0.0 key.0.1) closed x key.2 in
     let name = key_found_so profile text key.0.1 key.0.0 key.1 in
     let found = named_found profile name.0 key.0.0 key.0.1 test.0 name.1 test.1 in
     closed_found (SpellsSimple profile) text test.0 x (found.0, found.1, name.2 ∙ found.2) test.2

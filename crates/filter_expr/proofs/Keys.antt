@@ -11,7 +11,8 @@ use Rattle.song_files.specs.Tag.{Row as TagRow, table, same_letters, tag_named a
 use Rattle.song_files.specs.declared.tag.Tag.{Tag}
 use Rattle.profile.specs.declared.profile.Profile.{Profile}
 use Rattle.filter_expr.specs.declared.name.Key.{Key}
-use Rattle.filter_expr.specs.Names.{known, knows_times, key_of, key_named}
+use Rattle.profile.specs.declared.profile.Profile.TheVariants.{Named, Wide}
+use Rattle.filter_expr.specs.Names.{known, knows_times, is_file_name, key_of, key_named}
 use Rattle.filter_expr.specs.Parts.{is_blank, ends_name, name_in, behind_name, key_at, key_from, key_found}
 use Rattle.std.proofs.lemmas.Slice.Eq.{bytes_eq-Decides}
 
@@ -90,7 +91,16 @@ pub key_name : (profile : Profile) (name : List ℕ) (key : Key) → key_named p
 unfolding key_named
 key_name profile name key h = by_cases (any_tag_named name) refl h
   where
-    none_key : (name : List ℕ) → str_eq_ignore_ascii_case name (codes "any") ≡ false → str_eq_ignore_ascii_case name (codes "file") ≡ false
+    file_name : (profile : Profile) (name : List ℕ) → is_file_name profile name ≡ true → IsName name
+    file_name Named name t = same_letters_name name (codes "file") t (record { whole = refl; some = omega arith })
+    file_name Wide name t =
+        elim (cases_Bool (str_eq_ignore_ascii_case name (codes "file"))) [
+          | inl is ↦ same_letters_name name (codes "file") is (record { whole = refl; some = omega arith })
+          | inr n ↦ same_letters_name name (codes "filename") (let other : str_eq_ignore_ascii_case name (codes "filename") ≡ true =
+              rw n at t in other) (record { whole = refl; some = omega arith })
+        ]
+
+    none_key : (name : List ℕ) → str_eq_ignore_ascii_case name (codes "any") ≡ false → is_file_name profile name ≡ false
         → str_eq_ignore_ascii_case name (codes "base") ≡ false
         → str_eq_ignore_ascii_case name (codes "modified-since") ≡ false → (times : Bool) → knows_times profile ≡ times
         → key_of profile None name ≡ None
@@ -101,8 +111,8 @@ key_name profile name key h = by_cases (any_tag_named name) refl h
     other_name name key h =
         elim (cases_Bool (str_eq_ignore_ascii_case name (codes "any"))) [
           | inl t ↦ same_letters_name name (codes "any") t (record { whole = refl; some = omega arith })
-          | inr n7 ↦ elim (cases_Bool (str_eq_ignore_ascii_case name (codes "file"))) [
-            | inl t ↦ same_letters_name name (codes "file") t (record { whole = refl; some = omega arith })
+          | inr n7 ↦ elim (cases_Bool (is_file_name profile name)) [
+            | inl t ↦ file_name profile name t
             | inr n8 ↦ elim (cases_Bool (str_eq_ignore_ascii_case name (codes "base"))) [
               | inl t ↦ same_letters_name name (codes "base") t (record { whole = refl; some = omega arith })
               | inr n9 ↦ elim (cases_Bool (str_eq_ignore_ascii_case name (codes "modified-since"))) [

@@ -8,7 +8,7 @@ use Rattle.filter_expr.specs.declared.subject.Subject.{Subject}
 use Rattle.filter_expr.specs.Grammar.{AreBlanks, IsOperator, SpellsValue, SpellsNegation}
 use Rattle.filter_expr.specs.Names.{key_named}
 use Rattle.filter_expr.specs.Parts.{Fault, ◌>>=◌, opening, closing, exclamation, ends_name, begins_so, without_blanks, byte_at, value_at}
-use Rattle.filter_expr.specs.Reading.{Reader, since_of, test_tree, test_of, closed, test_at, negation_at, inside_at}
+use Rattle.filter_expr.specs.Reading.{Reader, is_only_equal, since_of, test_tree, test_of, closed, test_at, negation_at, inside_at}
 use Rattle.filter_expr.specs.Times.{time_in}
 use Rattle.filter_expr.specs.Tree.{Tree}
 use Rattle.filter_expr.specs.Tree.Tree.{Base, Since, Not}
@@ -28,58 +28,59 @@ closed_again tree after rest h =
 value_ends : (spelling value tail : List ℕ) → SpellsValue spelling value → EndsName (spelling ++ tail)
 value_ends spelling value tail h = subst (λ (s : List ℕ). EndsName (s ++ tail)) (sym h.parts) (quote_ends h.quote h.a_quote)
 
-base_again : (gap quoted value tail : List ℕ) → AreBlanks gap → SpellsValue quoted value
-    → test_of keys.Base (gap ++ (quoted ++ tail)) ≡ Ok (Base value, tail)
+base_again : (profile : Profile) (gap quoted value tail : List ℕ) → AreBlanks gap → SpellsValue quoted value
+    → test_of profile keys.Base (gap ++ (quoted ++ tail)) ≡ Ok (Base value, tail)
 unfolding test_of
-base_again gap quoted value tail blanks spelled =
+base_again profile gap quoted value tail blanks spelled =
     let here = blanks_again gap (quoted ++ tail) blanks ∙ value_bare quoted value tail spelled in
     let read = ap value_at here ∙ value_again quoted value tail spelled in
     ap (λ (r : Result (List ℕ × List ℕ) Fault). r >>= λ v. Ok (Base v.0, v.1)) read
 
-since_again : (gap quoted value tail : List ℕ) (time : ℕ) → AreBlanks gap → SpellsValue quoted value → time_in value ≡ Some time
-    → test_of keys.Since (gap ++ (quoted ++ tail)) ≡ Ok (Since time, tail)
+since_again : (profile : Profile) (gap quoted value tail : List ℕ) (time : ℕ) → AreBlanks gap → SpellsValue quoted value → time_in value ≡ Some time
+    → test_of profile keys.Since (gap ++ (quoted ++ tail)) ≡ Ok (Since time, tail)
 unfolding test_of
-since_again gap quoted value tail time blanks spelled is =
+since_again profile gap quoted value tail time blanks spelled is =
     let text = gap ++ (quoted ++ tail) in
     let here = blanks_again gap (quoted ++ tail) blanks ∙ value_bare quoted value tail spelled in
     let read = ap value_at here ∙ value_again quoted value tail spelled in
     ap (λ (r : Result (List ℕ × List ℕ) Fault). r >>= λ v. since_of (time_in v.0) (length (without_blanks text)) v.1) read
     ∙ ap (λ (t : Option ℕ). since_of t (length (without_blanks text)) tail) is
 
-compared_again : (subject : Subject) (operator : Operator) (middle quoted value tail : List ℕ) → IsOperator subject operator middle
-    → SpellsValue quoted value → test_of (keys.Of subject) (middle ++ (quoted ++ tail)) ≡ Ok (test_tree subject operator value, tail)
+compared_again : (profile : Profile) (subject : Subject) (operator : Operator) (middle quoted value tail : List ℕ)
+    → IsOperator (is_only_equal subject profile) operator middle
+    → SpellsValue quoted value → test_of profile (keys.Of subject) (middle ++ (quoted ++ tail)) ≡ Ok (test_tree subject operator value, tail)
 unfolding test_of
-compared_again subject operator middle quoted value tail compared spelled =
-    let sign = operator_again subject operator middle (quoted ++ tail) compared in
+compared_again profile subject operator middle quoted value tail compared spelled =
+    let sign = operator_again (is_only_equal subject profile) operator middle (quoted ++ tail) compared in
     let read = ap value_at (sign.2 ∙ value_bare quoted value tail spelled) ∙ value_again quoted value tail spelled in
     ap (λ (r : Result (Operator × List ℕ) Fault). r >>= λ o. value_at (without_blanks o.1) >>= λ v. Ok (test_tree subject o.0 v.0, v.1))
     sign.1
     ∙ ap (λ (r : Result (List ℕ × List ℕ) Fault). r >>= λ v. Ok (test_tree subject operator v.0, v.1)) read
 
 named_again : (profile : Profile) (name behind : List ℕ) (key : Key) (x : Tree × List ℕ) → key_named profile name ≡ Some key → EndsName behind
-    → test_of key behind ≡ Ok x → test_at profile (name ++ behind) ≡ closed x
+    → test_of profile key behind ≡ Ok x → test_at profile (name ++ behind) ≡ closed x
 unfolding test_at
 named_again profile name behind key x named ends h =
-    ap (λ (r : Result (Key × List ℕ) Fault). r >>= λ k. test_of k.0 k.1 >>= closed) (key_again profile name behind key named ends)
+    ap (λ (r : Result (Key × List ℕ) Fault). r >>= λ k. test_of profile k.0 k.1 >>= closed) (key_again profile name behind key named ends)
     ∙ ap (λ (r : Result (Tree × List ℕ) Fault). r >>= closed) h
 
 simple_again : (profile : Profile) (tree : Tree) (front tail : List ℕ) → SpellsSimple profile tree front
     → test_at profile (front ++ tail) ≡ closed (tree, tail)
 simple_again profile tree front tail (inl h) =
-    let read = base_again h.gap h.quoted h.value tail h.blanks h.spelled in
+    let read = base_again profile h.gap h.quoted h.value tail h.blanks h.spelled in
     let ends = ends_blanks h.gap (h.quoted ++ tail) h.blanks (value_ends h.quoted h.value tail h.spelled) in
     ap (λ (s : List ℕ). test_at profile (s ++ tail)) h.parts ∙ ap (test_at profile) (regroup h.name h.gap h.quoted tail)
     ∙ named_again profile h.name (h.gap ++ (h.quoted ++ tail)) keys.Base (Base h.value, tail) h.named ends read
     ∙ ap (λ (t : Tree). closed (t, tail)) (sym h.says)
 simple_again profile tree front tail (inr (inl h)) =
-    let read = since_again h.gap h.quoted h.value tail h.time h.blanks h.spelled h.read in
+    let read = since_again profile h.gap h.quoted h.value tail h.time h.blanks h.spelled h.read in
     let ends = ends_blanks h.gap (h.quoted ++ tail) h.blanks (value_ends h.quoted h.value tail h.spelled) in
     ap (λ (s : List ℕ). test_at profile (s ++ tail)) h.parts ∙ ap (test_at profile) (regroup h.name h.gap h.quoted tail)
     ∙ named_again profile h.name (h.gap ++ (h.quoted ++ tail)) keys.Since (Since h.time, tail) h.named ends read
     ∙ ap (λ (t : Tree). closed (t, tail)) (sym h.says)
 simple_again profile tree front tail (inr (inr h)) =
-    let read = compared_again h.subject h.operator h.middle h.quoted h.value tail h.compared h.spelled in
-    let ends = operator_ends h.subject h.operator h.middle (h.quoted ++ tail) h.compared in
+    let read = compared_again profile h.subject h.operator h.middle h.quoted h.value tail h.compared h.spelled in
+    let ends = operator_ends (is_only_equal h.subject profile) h.operator h.middle (h.quoted ++ tail) h.compared in
     ap (λ (s : List ℕ). test_at profile (s ++ tail)) h.parts ∙ ap (test_at profile) (regroup h.name h.middle h.quoted tail)
     ∙ named_again profile h.name (h.middle ++ (h.quoted ++ tail)) (keys.Of h.subject) (test_tree h.subject h.operator h.value, tail) h.named ends
     read ∙ ap (λ (t : Tree). closed (t, tail)) (sym h.says)

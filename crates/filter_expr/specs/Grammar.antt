@@ -1,5 +1,5 @@
 -- Which texts are expressions, and of which trees: by the parts that a text is put together from.
-use Rattle.std.specs.Prelude.{◌≡◌, ◌≢◌, ◌⊎◌, ◌↔◌, ℕ, zero, suc, ◌<◌, List, [], ◌∷◌, ◌++◌, length, true, Some, Ok}
+use Rattle.std.specs.Prelude.{◌≡◌, ◌≢◌, ◌⊎◌, ◌↔◌, ℕ, zero, suc, ◌<◌, List, [], ◌∷◌, ◌++◌, length, Bool, true, false, Some, Ok}
 use Rattle.std.specs.Prelude.{codes}
 use Rattle.std.specs.List.{list_all}
 use Rattle.std.specs.Str.{is_utf8}
@@ -8,10 +8,9 @@ use Rattle.filter_expr.specs.declared.name.Key.TheVariants as keys
 use Rattle.filter_expr.specs.declared.operator.Operator.{Operator}
 use Rattle.filter_expr.specs.declared.operator.Operator.TheVariants as operators
 use Rattle.filter_expr.specs.declared.subject.Subject.{Subject}
-use Rattle.filter_expr.specs.declared.subject.Subject.TheVariants.{File}
 use Rattle.filter_expr.specs.Names.{key_named}
 use Rattle.filter_expr.specs.Parts.{opening, closing, exclamation, backslash, is_blank, is_quote}
-use Rattle.filter_expr.specs.Reading.{test_tree, most_open, whole}
+use Rattle.filter_expr.specs.Reading.{is_only_equal, test_tree, most_open, whole}
 use Rattle.filter_expr.specs.Times.{time_in}
 use Rattle.filter_expr.specs.Tree.{Tree}
 use Rattle.filter_expr.specs.Tree.Tree.{Base, Since, Not, And}
@@ -39,15 +38,15 @@ pub record SpellsValue (text value : List ℕ) : Type 0 where
   pub utf8 : is_utf8 value ≡ true
   pub parts : text ≡ quote ∷ (inside ++ quote ∷ [])
 
--- what stands between a tag and its value; a file is only compared by `==`
-abbrev pub IsOperator : Subject → Operator → List ℕ → Type 0
-IsOperator subject operators.Equal middle =
+-- what stands between a tag and its value, which may be `==` alone
+abbrev pub IsOperator : Bool → Operator → List ℕ → Type 0
+IsOperator only operators.Equal middle =
     (before after : List ℕ) × AreBlanks before × AreBlanks after × (middle ≡ before ++ (codes "==" ++ after))
-IsOperator File operators.Unequal middle = ⊥
-IsOperator subject operators.Unequal middle =
+IsOperator true operators.Unequal middle = ⊥
+IsOperator false operators.Unequal middle =
     (before after : List ℕ) × AreBlanks before × AreBlanks after × (middle ≡ before ++ (codes "!=" ++ after))
-IsOperator File operators.Contains middle = ⊥
-IsOperator subject operators.Contains middle =
+IsOperator true operators.Contains middle = ⊥
+IsOperator false operators.Contains middle =
     (before after : List ℕ) × IsGap before × IsGap after × (middle ≡ before ++ (codes "contains" ++ after))
 
 -- `base V`
@@ -85,7 +84,7 @@ pub record SpellsTest (profile : Profile) (tree : Tree) (text : List ℕ) : Type
   pub quoted : List ℕ
   pub value : List ℕ
   pub named : key_named profile name ≡ Some (keys.Of subject)
-  pub compared : IsOperator subject operator middle
+  pub compared : IsOperator (is_only_equal subject profile) operator middle
   pub spelled : SpellsValue quoted value
   pub parts : text ≡ name ++ (middle ++ quoted)
   pub says : tree ≡ test_tree subject operator value

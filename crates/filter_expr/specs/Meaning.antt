@@ -10,7 +10,7 @@ use Rattle.filter_expr.specs.declared.case.Case.TheVariants.{Exact, Folded}
 use Rattle.filter_expr.specs.declared.subject.Subject.{Subject}
 use Rattle.filter_expr.specs.declared.subject.Subject.TheVariants.{OfTag, Any, File}
 use Rattle.filter_expr.specs.declared.subject.Comparison.{Comparison}
-use Rattle.filter_expr.specs.declared.subject.Comparison.TheVariants.{Equals, Contains, Pair}
+use Rattle.filter_expr.specs.declared.subject.Comparison.TheVariants.{Equals, Contains, Pair, WidePair}
 use Rattle.filter_expr.specs.Fallback.{told_tag}
 use Rattle.filter_expr.specs.Folding.{folded, in_case}
 use Rattle.filter_expr.specs.Times.{known_time, is_since}
@@ -33,26 +33,31 @@ is_like case Equals value text = bytes_eq (in_case case text) (in_case case valu
 is_like case Contains value text = occurs_in (in_case case value) (in_case case text)
 is_like Exact Pair value text = bytes_eq text value
 is_like Folded Pair value text = occurs_in (folded value) (folded text)
+is_like Exact WidePair value text = bytes_eq text value
+is_like Folded WidePair value text = occurs_in (folded value) (folded text)
 
 -- a folded text against a folded value that isn't empty
 abbrev pub compared : Comparison → List ℕ → List ℕ → Bool
 compared Equals value text = bytes_eq text value
 compared Contains value text = occurs_in value text
 compared Pair value text = occurs_in value text
+compared WidePair value text = occurs_in value text
 
 abbrev pub is_absent : List (List ℕ) → Bool
 is_absent [] = true
 is_absent (text ∷ texts) = false
 
 -- the empty value: it is contained always, and is equal where there is no text
-abbrev pub passes_empty : Comparison → List (List ℕ) → Bool
-passes_empty Equals texts = is_absent texts
-passes_empty Contains texts = true
-passes_empty Pair texts = is_absent texts
+abbrev pub passes_empty : Case → Comparison → List (List ℕ) → Bool
+passes_empty case Equals texts = is_absent texts
+passes_empty case Contains texts = true
+passes_empty case Pair texts = is_absent texts
+passes_empty Exact WidePair texts = is_absent texts
+passes_empty Folded WidePair texts = true
 
 -- one of the texts is like the value
 abbrev pub passes : Case → Comparison → List ℕ → List (List ℕ) → Bool
-passes case comparison [] texts = passes_empty comparison texts
+passes case comparison [] texts = passes_empty case comparison texts
 passes case comparison (v ∷ value) texts = list_any (is_like case comparison (v ∷ value)) texts
 
 -- what a filter sees of a song: its URI, its tags, and when its file was changed last

@@ -1,5 +1,5 @@
 -- The names of what a test looks at; the case of ASCII letters doesn't count.
-use Rattle.std.specs.Prelude.{ℕ, List, Bool, true, false, ◌&&◌, Option, Some, None, codes, if◌then◌else◌}
+use Rattle.std.specs.Prelude.{ℕ, List, Bool, true, false, ◌&&◌, ◌||◌, Option, Some, None, codes, if◌then◌else◌}
 use Rattle.std.specs.Str.{str_eq_ignore_ascii_case}
 use Rattle.profile.specs.Profile.{tags_of}
 use Rattle.profile.specs.declared.profile.Profile.{Profile}
@@ -24,12 +24,17 @@ abbrev pub knows_times : Profile → Bool
 knows_times Named = false
 knows_times Wide = true
 
+-- a song's file, which has another name in the wide profile
+abbrev pub is_file_name : Profile → List ℕ → Bool
+is_file_name Named name = str_eq_ignore_ascii_case name (codes "file")
+is_file_name Wide name = str_eq_ignore_ascii_case name (codes "file") || str_eq_ignore_ascii_case name (codes "filename")
+
 -- a tag, or something else that is named
 abbrev pub key_of : Profile → Option Tag → List ℕ → Option Key
 key_of profile (Some tag) name = Some (Of (OfTag tag))
 key_of profile None name =
     if str_eq_ignore_ascii_case name (codes "any") then Some (Of Any)
-    else (if str_eq_ignore_ascii_case name (codes "file") then Some (Of File)
+    else (if is_file_name profile name then Some (Of File)
     else (if str_eq_ignore_ascii_case name (codes "base") then Some Base
     else (if knows_times profile && str_eq_ignore_ascii_case name (codes "modified-since") then Some Since else None)))
 

@@ -2,8 +2,9 @@
 use Rattle.std.specs.Prelude.{ℕ, zero, suc, List, [], ◌∷◌, length, Bool, true, false, Option, Some, None, Result, Ok, Err, codes}
 use Rattle.std.specs.Prelude.{if◌then◌else◌}
 use Rattle.profile.specs.declared.profile.Profile.{Profile}
+use Rattle.profile.specs.declared.profile.Profile.TheVariants.{Named, Wide}
 use Rattle.filter_expr.specs.declared.subject.Subject.{Subject}
-use Rattle.filter_expr.specs.declared.subject.Subject.TheVariants.{File}
+use Rattle.filter_expr.specs.declared.subject.Subject.TheVariants.{OfTag, Any, File}
 use Rattle.filter_expr.specs.declared.subject.Comparison.TheVariants.{Equals, Contains}
 use Rattle.filter_expr.specs.declared.name.Key.{Key}
 use Rattle.filter_expr.specs.declared.name.Key.TheVariants as keys
@@ -16,10 +17,17 @@ use Rattle.filter_expr.specs.Times.{time_in}
 use Rattle.filter_expr.specs.Tree.{Tree}
 use Rattle.filter_expr.specs.Tree.Tree.{Test, Base, Since, Not, And}
 
--- `==`, or, but for a file, `!=` or `contains`
-unfoldable pub operator_at : Subject → List ℕ → Result (Operator × List ℕ) Fault
-operator_at File text = word_at (codes "==") (without_blanks text) >>= λ rest. Ok (operators.Equal, rest)
-operator_at subject text =
+-- a file of the named subset is compared by `==` alone
+abbrev pub is_only_equal : Subject → Profile → Bool
+is_only_equal (OfTag tag) profile = false
+is_only_equal Any profile = false
+is_only_equal File Named = true
+is_only_equal File Wide = false
+
+-- `==`, or, where that isn't all, `!=` or `contains`
+unfoldable pub operator_at : Bool → List ℕ → Result (Operator × List ℕ) Fault
+operator_at true text = word_at (codes "==") (without_blanks text) >>= λ rest. Ok (operators.Equal, rest)
+operator_at false text =
     if begins_so equals_sign (without_blanks text) then (word_at (codes "==") (without_blanks text) >>= λ rest. Ok (operators.Equal, rest))
     else (if begins_so exclamation (without_blanks text)
     then (word_at (codes "!=") (without_blanks text) >>= λ rest. Ok (operators.Unequal, rest))
@@ -36,15 +44,15 @@ since_of None left rest = Err (Bad left)
 since_of (Some time) left rest = Ok (Since time, rest)
 
 -- `TAG == V` and its kin, `base V` or `modified-since V`, behind its name
-unfoldable pub test_of : Key → List ℕ → Result (Tree × List ℕ) Fault
-test_of keys.Base text = do
+unfoldable pub test_of : Profile → Key → List ℕ → Result (Tree × List ℕ) Fault
+test_of profile keys.Base text = do
   value ← value_at (without_blanks text)
   Ok (Base value.0, value.1)
-test_of keys.Since text = do
+test_of profile keys.Since text = do
   value ← value_at (without_blanks text)
   since_of (time_in value.0) (length (without_blanks text)) value.1
-test_of (keys.Of subject) text = do
-  operator ← operator_at subject text
+test_of profile (keys.Of subject) text = do
+  operator ← operator_at (is_only_equal subject profile) text
   value ← value_at (without_blanks operator.1)
   Ok (test_tree subject operator.0 value.0, value.1)
 
@@ -60,7 +68,7 @@ closed x = do
 unfoldable pub test_at : Profile → Reader
 test_at profile text = do
   key ← key_at profile text
-  test ← test_of key.0 key.1
+  test ← test_of profile key.0 key.1
   closed test
 
 -- `!EXPR)`, where `read` reads EXPR

@@ -6,15 +6,15 @@ use Rattle.song_files.specs.declared.tag.Tag.{Tag}
 use Rattle.filter_expr.specs.declared.order.SortKey.{SortKey}
 use Rattle.filter_expr.specs.declared.order.SortKey.TheVariants.{OfTag, File, LastModified}
 use Rattle.filter_expr.specs.declared.order.SortOrder.{SortOrder}
-use Rattle.filter_expr.specs.Names.{tag_named, knows_times}
+use Rattle.filter_expr.specs.Names.{tag_named, knows_times, is_file_name}
 use Rattle.filter_expr.specs.Words.{Refusal}
 use Rattle.filter_expr.specs.Words.Refusal.{UnknownTag}
 
--- a tag, `file`, or `Last-Modified` where times are known
+-- a tag, a song's file, or `Last-Modified` where times are known
 abbrev pub sort_key : Profile → Option Tag → List ℕ → Option SortKey
 sort_key profile (Some tag) name = Some (OfTag tag)
 sort_key profile None name =
-    if str_eq_ignore_ascii_case name (codes "file") then Some File
+    if is_file_name profile name then Some File
     else (if knows_times profile && str_eq_ignore_ascii_case name (codes "last-modified") then Some LastModified else None)
 
 abbrev pub order_by : Bool → List ℕ → Option SortKey → Result SortOrder Refusal

@@ -8,7 +8,7 @@ use Rattle.song_files.proofs.TagNumbers.{tag_at-number}
 use Rattle.filter_expr.specs.declared.subject.Subject.{Subject}
 use Rattle.filter_expr.specs.declared.subject.Subject.TheVariants.{OfTag, Any, File}
 use Rattle.filter_expr.specs.declared.subject.Comparison.{Comparison}
-use Rattle.filter_expr.specs.declared.subject.Comparison.TheVariants.{Equals, Contains, Pair}
+use Rattle.filter_expr.specs.declared.subject.Comparison.TheVariants.{Equals, Contains, Pair, WidePair}
 use Rattle.filter_expr.specs.Tree.{Tree}
 use Rattle.filter_expr.specs.Tree.Tree.{Test, Base, Since, Not, And}
 
@@ -34,6 +34,7 @@ abbrev comparison_number : Comparison → ℕ
 comparison_number Equals = 0
 comparison_number Contains = 1
 comparison_number Pair = 2
+comparison_number WidePair = 7
 
 -- the nodes in front of their children's
 abbrev steps : Tree → List Step → List Step
@@ -59,7 +60,8 @@ placed step trees =
     else (if step.0 == 2 then Test (subject_at step.1.0) Pair step.1.1 ∷ trees
     else (if step.0 == 3 then Base step.1.1 ∷ trees
     else (if step.0 == 4 then with_not trees
-    else (if step.0 == 6 then Since step.1.0 ∷ trees else with_and trees)))))
+    else (if step.0 == 6 then Since step.1.0 ∷ trees
+    else (if step.0 == 7 then Test (subject_at step.1.0) WidePair step.1.1 ∷ trees else with_and trees))))))
 
 -- the trees of nodes
 abbrev trees_of : List Step → List Tree
@@ -79,6 +81,7 @@ pub trees_again : (tree : Tree) (after : List Step) → trees_of (steps tree aft
 trees_again (Test subject Equals value) after = ap (λ (s : Subject). Test s Equals value ∷ trees_of after) (subject_again subject)
 trees_again (Test subject Contains value) after = ap (λ (s : Subject). Test s Contains value ∷ trees_of after) (subject_again subject)
 trees_again (Test subject Pair value) after = ap (λ (s : Subject). Test s Pair value ∷ trees_of after) (subject_again subject)
+trees_again (Test subject WidePair value) after = ap (λ (s : Subject). Test s WidePair value ∷ trees_of after) (subject_again subject)
 trees_again (Base base) after = refl
 trees_again (Since time) after = refl
 trees_again (Not tree) after = ap with_not (trees_again tree after)

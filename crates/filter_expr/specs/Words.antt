@@ -2,9 +2,11 @@
 use Rattle.std.specs.Prelude.{◌≡◌, ℕ, ◌+◌, ◌-◌, List, [], ◌∷◌, length, drop, Result, Ok, Err, Option, Some, None, if◌then◌else◌}
 use Rattle.std.specs.Str.{is_utf8}
 use Rattle.profile.specs.declared.profile.Profile.{Profile}
+use Rattle.profile.specs.declared.profile.Profile.TheVariants.{Named, Wide}
 use Rattle.filter_expr.specs.declared.name.Key.{Key}
 use Rattle.filter_expr.specs.declared.name.Key.TheVariants as keys
-use Rattle.filter_expr.specs.declared.subject.Comparison.TheVariants.{Pair}
+use Rattle.filter_expr.specs.declared.subject.Comparison.{Comparison}
+use Rattle.filter_expr.specs.declared.subject.Comparison.TheVariants.{Pair, WidePair}
 use Rattle.filter_expr.specs.declared.refusal.FilterError.{FilterError}
 use Rattle.filter_expr.specs.declared.refusal.FilterError.TheVariants as errors
 use Rattle.filter_expr.specs.declared.parts.Stop.{Stop}
@@ -48,11 +50,16 @@ abbrev pub since_pair : ℕ → Option ℕ → Result Tree Refusal
 since_pair number None = Err (BadFilter number 0)
 since_pair number (Some time) = Ok (Since time)
 
+-- how a pair compares
+abbrev pub paired : Profile → Comparison
+paired Named = Pair
+paired Wide = WidePair
+
 -- what a value says, whose word has this number
-abbrev pub pair_tree : ℕ → Key → List ℕ → Result Tree Refusal
-pair_tree number keys.Base value = Ok (Base value)
-pair_tree number (keys.Of subject) value = Ok (Test subject Pair value)
-pair_tree number keys.Since value = since_pair number (time_in value)
+abbrev pub pair_tree : Profile → ℕ → Key → List ℕ → Result Tree Refusal
+pair_tree profile number keys.Base value = Ok (Base value)
+pair_tree profile number (keys.Of subject) value = Ok (Test subject (paired profile) value)
+pair_tree profile number keys.Since value = since_pair number (time_in value)
 
 abbrev pub keyed : Option Key → List ℕ → Result Key Refusal
 keyed None name = Err (UnknownTag name)
@@ -62,7 +69,7 @@ keyed (Some key) name = Ok key
 unfoldable pub pair_of : Profile → ℕ → List ℕ → List ℕ → Result Tree Refusal
 pair_of profile number name value = do
   key ← keyed (key_named profile name) name
-  if is_utf8 value then pair_tree (number + 1) key value else Err (BadFilter (number + 1) 0)
+  if is_utf8 value then pair_tree profile (number + 1) key value else Err (BadFilter (number + 1) 0)
 
 -- a tag without a value
 unfoldable pub half_pair : Profile → ℕ → List ℕ → Result Tree Refusal

@@ -7,6 +7,7 @@ ghost use Rattle.filter_expr.specs.Looked.{is_like_of};
 ghost use Rattle.filter_expr.specs.Meaning.{compared, is_like, song_of, does_hold};
 ghost use Rattle.filter_expr.specs.declared.case.Case.TheVariants.{Folded};
 
+use crate::case::Case;
 use crate::lowered::compare_ascii;
 use crate::row_text::{occurs_in, passes_empty};
 use crate::subject::{Comparison, Subject};
@@ -61,7 +62,7 @@ fn compare(comparison: Comparison, value: &str, text: &str) -> bool
 {
     match comparison {
         Comparison::Equals => text == value,
-        Comparison::Contains | Comparison::Pair => occurs_in(value, text),
+        Comparison::Contains | Comparison::Pair | Comparison::WidePair => occurs_in(value, text),
     }
 }
 
@@ -155,7 +156,7 @@ impl<'a> FoldedRow<'a> {
         ensures ascii { IsAsciiSong self.old → IsOk result }
     {
         if value.text().is_empty() {
-            return Ok(passes_empty(subject, comparison, self.row));
+            return Ok(passes_empty(Case::Folded, subject, comparison, self.row));
         }
         let row = self.row;
         match subject {

@@ -16,7 +16,9 @@ pub(crate) fn compare_ascii(comparison: Comparison, value: &str, text: &str) -> 
     let (value, text) = (value.as_bytes(), text.as_bytes());
     match comparison {
         Comparison::Equals => is_lowered(value, text),
-        Comparison::Contains | Comparison::Pair => occurs_lowered(value, text),
+        Comparison::Contains | Comparison::Pair | Comparison::WidePair => occurs_lowered(
+            value, text,
+        ),
     }
 }
 

@@ -1,7 +1,7 @@
 // The names of tags and of a filter's other keys, in any case.
 ghost use Rattle.std.specs.Prelude.{◌≡◌, codes};
 ghost use Rattle.std.specs.Str.{str_eq_ignore_ascii_case};
-ghost use Rattle.filter_expr.specs.Names.{tag_named, knows_times, key_named};
+ghost use Rattle.filter_expr.specs.Names.{tag_named, knows_times, is_file_name, key_named};
 
 use crate::subject::Subject;
 use profile::Profile;
@@ -37,7 +37,17 @@ pub(crate) fn knows_times(profile: Profile) -> bool
     }
 }
 
-/// What the name stands for: a tag, `any`, `file`, `base` or, where times are known, `modified-since`.
+/// Whether it is the name of a song's file: `file`, in the wide profile `filename` too.
+pub(crate) fn is_file_name(profile: Profile, name: &[u8]) -> bool
+    ensures { result ≡ is_file_name profile name.now }
+{
+    match profile {
+        Profile::Named => is_named(name, b"file"),
+        Profile::Wide => is_named(name, b"file") || is_named(name, b"filename"),
+    }
+}
+
+/// What the name stands for: a tag, `any`, a song's file, `base` or, where times are known, `modified-since`.
 #[tactic(auto, unfolding(crate::specs::Names::key_named))]
 pub(crate) fn key_named(profile: Profile, name: &[u8]) -> Option<Key>
     ensures { result ≡ key_named profile name.now }
@@ -47,7 +57,7 @@ pub(crate) fn key_named(profile: Profile, name: &[u8]) -> Option<Key>
     }
     if is_named(name, b"any") {
         Some(Key::Of(Subject::Any))
-    } else if is_named(name, b"file") {
+    } else if is_file_name(profile, name) {
         Some(Key::Of(Subject::File))
     } else if is_named(name, b"base") {
         Some(Key::Base)

@@ -1,7 +1,8 @@
 // Reads an expression from its text.
 ghost use Rattle.std.specs.Prelude.{◌≡◌, ◌<◌, ◌≤◌, ℕ, length, IfOk, string_bytes};
 ghost use Rattle.filter_expr.specs.Gives.{Gives};
-ghost use Rattle.filter_expr.specs.Reading.{operator_at, since_of, test_of, test_tree, closed, test_at, negation_at, group_at, inside_at};
+ghost use Rattle.filter_expr.specs.Reading.{is_only_equal, operator_at, since_of, test_of, test_tree, closed, test_at};
+ghost use Rattle.filter_expr.specs.Reading.{negation_at, group_at, inside_at};
 ghost use Rattle.filter_expr.specs.Reading.{expression_at, whole};
 ghost use Rattle.filter_expr.specs.Times.{time_in};
 ghost use Rattle.filter_expr.specs.Tree.{tree_of};
@@ -22,14 +23,27 @@ use std::alloc::{AllocError, Global};
 /// How many parentheses may be open at once.
 const MOST_OPEN: u32 = 32;
 
-/// How the subject is compared.
+/// Whether a subject is compared by `==` alone.
+fn is_only_equal(profile: Profile, subject: Subject) -> bool
+    ensures { result ≡ is_only_equal subject profile }
+{
+    match subject {
+        Subject::OfTag(_) | Subject::Any => false,
+        Subject::File => match profile {
+            Profile::Named => true,
+            Profile::Wide => false,
+        },
+    }
+}
+
+/// How a subject is compared, which may be by `==` alone.
 #[tactic(auto, unfolding(crate::specs::Reading::operator_at))]
-fn operator_at(subject: Subject, text: &[u8]) -> Result<(Operator, &[u8]), Stop<'_>>
-    ensures exact { Gives (λ x. (x.0, x.1.now)) result (operator_at subject text.now) }
+fn operator_at(only_equal: bool, text: &[u8]) -> Result<(Operator, &[u8]), Stop<'_>>
+    ensures exact { Gives (λ x. (x.0, x.1.now)) result (operator_at only_equal text.now) }
     ensures bound { IfOk result (λ x. length x.1.now ≤ length text.now) }
 {
     let bare = without_blanks(text);
-    if subject == Subject::File || begins_so(b'=', bare) {
+    if only_equal || begins_so(b'=', bare) {
         return Ok((Operator::Equal, word_at(b"==", bare)?));
     }
     if begins_so(b'!', bare) {
@@ -74,8 +88,13 @@ fn since_of<'a>(
 
 /// The rest of a test behind its name.
 #[tactic(auto, unfolding(crate::specs::Reading::test_of))]
-fn test_of(alloc: Global, key: Key, text: &[u8]) -> Result<(Expression, &[u8]), Stop<'_>>
-    ensures exact { Gives (λ x. (tree_of x.0, x.1.now)) result (test_of key text.now) }
+fn test_of(
+    alloc: Global,
+    profile: Profile,
+    key: Key,
+    text: &[u8],
+) -> Result<(Expression, &[u8]), Stop<'_>>
+    ensures exact { Gives (λ x. (tree_of x.0, x.1.now)) result (test_of profile key text.now) }
     ensures shorter { IfOk result (λ x. length x.1.now < length text.now) }
 {
     match key {
@@ -89,7 +108,7 @@ fn test_of(alloc: Global, key: Key, text: &[u8]) -> Result<(Expression, &[u8]), 
             since_of(value.as_str(), bare.len(), rest)
         }
         Key::Of(subject) => {
-            let (operator, behind) = operator_at(subject, text)?;
+            let (operator, behind) = operator_at(is_only_equal(profile, subject), text)?;
             let (value, rest) = value_at(alloc, without_blanks(behind))?;
             Ok((test(alloc, subject, operator, value)?, rest))
         }
@@ -113,7 +132,7 @@ fn test_at(alloc: Global, profile: Profile, text: &[u8]) -> Result<(Expression, 
     ensures shorter { IfOk result (λ x. length x.1.now < length text.now) }
 {
     let (key, behind) = key_at(profile, text)?;
-    let (tree, rest) = test_of(alloc, key, behind)?;
+    let (tree, rest) = test_of(alloc, profile, key, behind)?;
     closed(tree, rest)
 }
 

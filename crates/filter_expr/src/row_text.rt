@@ -5,6 +5,7 @@ ghost use Rattle.filter_expr.specs.Looked.{is_like_of};
 ghost use Rattle.filter_expr.specs.Meaning.{is_absent, is_like, occurs_in, passes_empty, song_of, texts_for, does_hold, is_at};
 ghost use Rattle.filter_expr.specs.declared.case.Case.TheVariants.{Exact};
 
+use crate::case::Case;
 use crate::fallback::told_tag;
 use crate::subject::{Comparison, Subject};
 use crate::value::TestValue;
@@ -24,18 +25,27 @@ fn is_like_exact(comparison: Comparison, value: &str, text: &str) -> bool
     ensures { result ≡ is_like Exact comparison value.now text.now }
 {
     match comparison {
-        Comparison::Equals | Comparison::Pair => text == value,
+        Comparison::Equals | Comparison::Pair | Comparison::WidePair => text == value,
         Comparison::Contains => occurs_in(value, text),
     }
 }
 
 /// Whether the empty value passes.
-pub(crate) fn passes_empty(subject: Subject, comparison: Comparison, row: &SongRow) -> bool
-    ensures { result ≡ passes_empty comparison (texts_for subject (song_of row.now)) }
+pub(crate) fn passes_empty(
+    case: Case,
+    subject: Subject,
+    comparison: Comparison,
+    row: &SongRow,
+) -> bool
+    ensures { result ≡ passes_empty case comparison (texts_for subject (song_of row.now)) }
 {
     match comparison {
         Comparison::Equals | Comparison::Pair => is_absent(subject, row),
         Comparison::Contains => true,
+        Comparison::WidePair => match case {
+            Case::Exact => is_absent(subject, row),
+            Case::Folded => true,
+        },
     }
 }
 
@@ -60,7 +70,7 @@ pub(crate) fn does_hold_exact(
     ensures { result ≡ does_hold Exact subject comparison value.now (song_of row.now) }
 {
     if value.text().is_empty() {
-        return passes_empty(subject, comparison, row);
+        return passes_empty(Case::Exact, subject, comparison, row);
     }
     match subject {
         Subject::File => is_like_exact(comparison, value.text(), row.uri()),

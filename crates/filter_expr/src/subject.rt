@@ -47,4 +47,6 @@ pub enum Comparison {
     Contains,
     /// That of a pair of a tag and a value: equality where the case counts, and else containment.
     Pair,
+    /// That of a pair in the wide profile: where the case doesn't count, each song passes the empty value.
+    WidePair,
 }

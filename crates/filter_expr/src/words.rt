@@ -4,7 +4,8 @@ ghost use Rattle.std.specs.Str.{is_utf8};
 ghost use Rattle.filter_expr.specs.Names.{key_named};
 ghost use Rattle.filter_expr.specs.Reading.{whole};
 ghost use Rattle.filter_expr.specs.Tree.{tree_of};
-ghost use Rattle.filter_expr.specs.Words.{Gives, error_in, read_in_word, keyed, half_pair, pair_of, pair_tree, pair_at, pairs_of};
+ghost use Rattle.filter_expr.specs.Words.{Gives, error_in, read_in_word, keyed, half_pair, pair_of, pair_tree, paired};
+ghost use Rattle.filter_expr.specs.Words.{pair_at, pairs_of};
 ghost use Rattle.filter_expr.specs.Words.{filter_of};
 ghost use Rattle.filter_expr.specs.declared.refusal.FilterError.TheVariants as errors;
 
@@ -87,7 +88,7 @@ fn pair_of<'a>(
     let Some(value) = text(alloc, value)? else {
         return Err(bad_word(number + 1));
     };
-    pair(alloc, number + 1, key, value)
+    pair(alloc, profile, number + 1, key, value)
 }
 
 /// A text of these bytes, if they are UTF-8.
@@ -100,14 +101,25 @@ fn text(alloc: Global, bytes: &[u8]) -> Result<Option<String>, AllocError>
     }
 }
 
+/// How a pair compares.
+fn paired(profile: Profile) -> Comparison
+    ensures { result ≡ paired profile }
+{
+    match profile {
+        Profile::Named => Comparison::Pair,
+        Profile::Wide => Comparison::WidePair,
+    }
+}
+
 /// What a value says, whose word has this number.
 fn pair<'a>(
     alloc: Global,
+    profile: Profile,
     number: usize,
     key: Key,
     value: String,
 ) -> Result<Expression, FilterError<'a>>
-    ensures { Gives tree_of result (pair_tree number key (string_bytes value)) }
+    ensures { Gives tree_of result (pair_tree profile number key (string_bytes value)) }
 {
     match key {
         Key::Base => Ok(Expression::Base(value)),
@@ -117,7 +129,7 @@ fn pair<'a>(
         },
         Key::Of(subject) => {
             let value = TestValue::new(alloc, value)?;
-            Ok(Expression::Test(subject, Comparison::Pair, value))
+            Ok(Expression::Test(subject, paired(profile), value))
         }
     }
 }

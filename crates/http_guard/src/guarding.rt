@@ -1,6 +1,6 @@
 // Where guarded clients connect, and what tells of them.
 use crate::guarded::Guarded;
-use mio_clients::{Interest, Listener, Ready, Stream, Token};
+use mio_clients::{ClockTime, Interest, Listener, Ready, Stream, Token};
 use std::alloc::Global;
 use std::io;
 use std::time::Duration;
@@ -26,6 +26,10 @@ impl<S: Stream, L: Listener<S>> Listener<Guarded<S>> for GuardedListener<L> {
 
     fn now(&mut self) -> u64 {
         self.listener.now()
+    }
+
+    fn clock(&mut self) -> Option<ClockTime> {
+        self.listener.clock()
     }
 
     fn gave_way(&mut self, client: u64, silence: u64) {

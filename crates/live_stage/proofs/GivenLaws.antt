@@ -100,6 +100,7 @@ step_profile law s (events.Ended ticket) refused = after_all_profile (let h = wh
 step_profile law s (events.Broken ticket cause) refused = after_all_profile (let h = when_broken ticket cause s.machine in h.ops) s.machine.saved
 step_profile law s (events.Batch job changes) refused = found_profile job changes s.machine
 step_profile law s (events.ScanDone job) refused = scanned_profile job s.machine
+step_profile law s (events.Clock time) refused = refl
 
 -- nor does a history
 pub history_profile : (law : CommandsRebuild) (s : State) (history : List Entry)

@@ -1,6 +1,6 @@
 -- The forms of a command's meaning. What holds of each form, between the machine before and the meaning, holds of every command that isn't
 -- refused. So a law of all commands is proved of the forms alone; a command that is added is found to have one, or has its line here.
-use Rattle.std.proofs.Common.{◌≡◌, ℕ, Bool, true, false, not, suc, List, [], Option, Some, None, Result, Ok, Err, refl, arith}
+use Rattle.std.proofs.Common.{◌≡◌, ℕ, Bool, true, false, not, suc, List, [], ◌∷◌, Option, Some, None, Result, Ok, Err, refl, arith}
 use Rattle.std.specs.Prelude.{nat_lt, if◌then◌else◌}
 use Rattle.command_text.specs.declared.tag_mask.TagMask.{TagMask}
 use Rattle.command_text.specs.AnswerSetup.{setup_lines}
@@ -25,7 +25,11 @@ use Rattle.command_text.specs.declared.refusal.CommandRefusal.{CommandRefusal}
 use Rattle.command_text.specs.declared.refusal.CommandRefusal.TheVariants.{AlreadyUpdating}
 use Rattle.play_queue.specs.declared.target.Target.{Target}
 use Rattle.player_core.specs.Commands.{halted, paused, previous_one}
-use Rattle.player_core.specs.Player.{PlayerState}
+use Rattle.player_core.specs.Player.{PlayerState, stopped_without_song}
+use Rattle.player_core.specs.declared.playing.PlayState.{PlayState}
+use Rattle.player_core.specs.declared.playing.PlayState.TheVariants as states
+use Rattle.profile.specs.declared.profile.Profile.{Profile}
+use Rattle.profile.specs.declared.profile.Profile.TheVariants.{Named, Wide}
 use Rattle.player_core.specs.Seek.{sought_here}
 use Rattle.player_core.specs.declared.refusal.PlayerError.{PlayerError}
 use Rattle.player_core.specs.declared.seek.SeekTime.{SeekTime}
@@ -43,12 +47,13 @@ use Rattle.machine_core.specs.Database.{begun, database_meaning, last_job_number
 use Rattle.machine_core.specs.Finding.{finding_meaning}
 use Rattle.machine_core.specs.Followed.{followed}
 use Rattle.machine_core.specs.Lists.{lists_meaning, replaced, replaces}
-use Rattle.machine_core.specs.Meaning.{Meaning, Meant, begins, edited, edits, must, refusal_of_all, says, stands, unless_refused}
+use Rattle.machine_core.specs.Meaning.{Meaning, Meant, begins, does, edited, edits, must, refusal_of_all, says, stands, unless_refused}
 use Rattle.machine_core.specs.Playing.{playing_meaning}
-use Rattle.machine_core.specs.Queue.{moves as moves_block, place_in_rest, queue_meaning, shuffles}
+use Rattle.machine_core.specs.Queue.{is_held, moves as moves_block, place_in_rest, queue_meaning, shuffle_ops, shuffles, shuffles_around}
+use Rattle.machine_core.specs.Queue.{shuffles_by, shuffles_in, shuffles_plainly, shuffles_playing, shuffles_stopped}
 use Rattle.machine_core.specs.Settings.{settings_meaning}
 use Rattle.machine_core.specs.Spans.{count_of}
-use Rattle.machine_core.specs.State.{MachineState, settings_of}
+use Rattle.machine_core.specs.State.{MachineState, settings_of, shown_of}
 use Rattle.machine_core.specs.Steps.{current_length, moves, named_length, puts, step_in}
 use Rattle.machine_core.specs.Stickers.{stickers_meaning}
 use Rattle.machine_core.specs.Told.{told}
@@ -87,13 +92,18 @@ KnowsLength (steps.Seek selector song milliseconds) m = song ≡ named_length se
 KnowsLength other m = Unit {0}
 
 -- The forms: lines alone; an op, which no command makes of a batch, that isn't refused and changes something; the songs of the queue in
--- place of a playlist's; a job that begins under a number of its own; a step of the player; a turn of the player alone.
+-- place of a playlist's; a range of the queue that is shuffled around a song, or where no song stays current; a job that begins under a
+-- number of its own; a step of the player; a turn of the player alone.
 pub record OfForms (Q : MachineState → Meaning → Type 0) : Type 0 where
   pub says : (text : List ℕ) (m : MachineState) → Q m (stands text m)
   pub edits : (op : Op) (text : List ℕ) (m : MachineState) → is_batch op ≡ false → refusal_of op m.saved ≡ None →
       changes_nothing op m.saved ≡ false → Q m (edited op text (followed op m) m)
   pub replaces : (name : List ℕ) (m : MachineState) → refusal_of_all (replace_ops name) m.saved ≡ None →
       replaces_nothing name m.saved ≡ false → Q m (replaced name m)
+  pub shuffles : (id : ℕ) (span : Span) (m : MachineState) → refusal_of_all (shuffle_ops id span m.saved) m.saved ≡ None →
+      Q m (does [] (shuffle_ops id span m.saved) m.player m)
+  pub stops : (span : Span) (m : MachineState) → refusal_of (OfQueue (Shuffle span.start span.end)) m.saved ≡ None →
+      Q m (does [] (OfQueue (Shuffle span.start span.end) ∷ []) (stopped_without_song m.player) m)
   pub begins : (job : Job) (text : List ℕ) (m : MachineState) → (job.number ≡ m.job.number → ⊥) → Holds Q m (begins job text m)
   pub moves : (step : PlayerStep) (m : MachineState) → KnowsLength step m → Holds Q m (moves (step_in step m) m)
   pub turns : (turn : Turn) (m : MachineState) → Holds Q m (puts (turned turn m) m)
@@ -143,12 +153,49 @@ module _ (Q : MachineState → Meaning → Type 0) (of : OfForms Q) where
   moves_so : (block : Span) (to : Target) (m : MachineState) → Holds Q m (moves_block block to m)
   moves_so block to m = then_so m (place_in_rest to block m) _ (λ at. edits_so _ _ m refl)
 
+  around_so : (id : ℕ) (span : Span) (m : MachineState) → Holds Q m (shuffles_around id span m)
+  around_so id span m = by_cases (refusal_of_all (shuffle_ops id span m.saved) m.saved) refl
+    where
+      by_cases : (refusal : Option OpRefusal) → refusal_of_all (shuffle_ops id span m.saved) m.saved ≡ refusal
+          → Holds Q m (unless_refused (told refusal) (does [] (shuffle_ops id span m.saved) m.player m))
+      by_cases None free = of.shuffles id span m free
+      by_cases (Some refusal) refused = tt
+
+  stopped_so : (span : Span) (m : MachineState) → Holds Q m (shuffles_stopped span m)
+  stopped_so span m = by_cases (refusal_of (OfQueue (Shuffle span.start span.end)) m.saved) refl
+    where
+      by_cases : (refusal : Option OpRefusal) → refusal_of (OfQueue (Shuffle span.start span.end)) m.saved ≡ refusal
+          → Holds Q m (unless_refused (told refusal)
+          (does [] (OfQueue (Shuffle span.start span.end) ∷ []) (stopped_without_song m.player) m))
+      by_cases None free = of.stops span m free
+      by_cases (Some refusal) refused = tt
+
+  plainly_so : (span : Span) (m : MachineState) → Holds Q m (shuffles_plainly span m)
+  plainly_so span m = edits_so _ _ m refl
+
+  while_playing_so : (current : Option ℕ) (span : Span) (m : MachineState) → Holds Q m (shuffles_playing current span m)
+  while_playing_so None span m = plainly_so span m
+  while_playing_so (Some id) span m = by_cases (is_held span (shown_of m).current)
+    where
+      by_cases : (b : Bool) → Holds Q m (if b then shuffles_around id span m else shuffles_plainly span m)
+      by_cases true = around_so id span m
+      by_cases false = plainly_so span m
+
+  by_state_so : (state : PlayState) (span : Span) (m : MachineState) → Holds Q m (shuffles_in state span m)
+  by_state_so states.Stop span m = stopped_so span m
+  by_state_so states.Play span m = while_playing_so m.player.current span m
+  by_state_so states.Pause span m = while_playing_so m.player.current span m
+
+  by_profile_so : (profile : Profile) (span : Span) (m : MachineState) → Holds Q m (shuffles_by profile span m)
+  by_profile_so Named span m = plainly_so span m
+  by_profile_so Wide span m = by_state_so m.player.state span m
+
   shuffles_so : (span : Span) (m : MachineState) → Holds Q m (shuffles span m)
   shuffles_so span m = by_cases (nat_lt (count_of span) 2)
     where
-      by_cases : (b : Bool) → Holds Q m (if b then says [] m else edits (OfQueue (Shuffle span.start span.end)) [] m)
+      by_cases : (b : Bool) → Holds Q m (if b then says [] m else shuffles_by m.saved.profile span m)
       by_cases true = of.says [] m
-      by_cases false = edits_so _ _ m refl
+      by_cases false = by_profile_so m.saved.profile span m
 
   ruleset forms = (says_so, then_so, edits_so, replaces_so, adds_so, moves_so, shuffles_so)
 
@@ -164,10 +211,10 @@ module _ (Q : MachineState → Meaning → Type 0) (of : OfForms Q) where
   unfolding database_meaning
   database_so mask (database.Update place) m =
       then_so m (must (not m.job.runs) AlreadyUpdating) _
-      (λ free. of.begins (begun (next_job m.job.number) place false) _ m (next_is_other m.job.number))
+      (λ free. of.begins (begun (next_job m.job.number) place false m.clock.now) _ m (next_is_other m.job.number))
   database_so mask (database.Rescan place) m =
       then_so m (must (not m.job.runs) AlreadyUpdating) _
-      (λ free. of.begins (begun (next_job m.job.number) place true) _ m (next_is_other m.job.number))
+      (λ free. of.begins (begun (next_job m.job.number) place true m.clock.now) _ m (next_is_other m.job.number))
   database_so mask other m = search forms
 
   queue_so : (mask : TagMask) (command : QueueCommand) (m : MachineState) → Holds Q m (queue_meaning mask command m)

@@ -7,5 +7,6 @@ pub mod Sorted
 pub mod Told
 pub mod Values
 pub mod Distinct
+pub mod AllValues
 pub mod Groups
 pub mod GroupMaps

@@ -14,6 +14,7 @@ pub mod ReportsLaws
 pub mod Edits
 pub mod Growing
 pub mod Replacing
+pub mod Shuffling
 pub mod EditCommands
 pub mod Answering
 pub mod Queue

@@ -1,3 +1,5 @@
 pub mod Lines
 pub mod Meanings
+pub mod Shuffled
+pub mod Around
 pub mod Answered

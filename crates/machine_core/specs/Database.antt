@@ -1,7 +1,7 @@
 -- The commands of the database and its scans.
-use Rattle.std.specs.Prelude.{ℕ, suc, List, [], ◌++◌, Bool, true, false, not, nat_lt, length, Option, Some, None, Result, Ok, Err}
+use Rattle.std.specs.Prelude.{ℕ, suc, List, [], ◌++◌, ◌==◌, Bool, true, false, not, nat_lt, length, Option, Some, None, Result, Ok, Err}
 use Rattle.std.specs.Prelude.{flat_map, unwrap_or, if◌then◌else◌}
-use Rattle.command_text.specs.AnswerNames.{listed_commands, tag_type_line, directory_line, database_lines}
+use Rattle.command_text.specs.AnswerNames.{listed_commands, tag_type_line, directory_line, database_lines, times_lines}
 use Rattle.command_text.specs.AnswerSongs.{file_line, song_lines}
 use Rattle.command_text.specs.AnswerStatus.{job_line}
 use Rattle.command_text.specs.declared.command.database.DatabaseCommand.{DatabaseCommand}
@@ -100,15 +100,25 @@ last_job_number = 2147483647
 abbrev pub next_job : ℕ → ℕ
 next_job number = if nat_lt number last_job_number then suc number else 1
 
--- a job that begins; one that opens all reads every file, and any other those alone that have another stamp than their row
-abbrev pub begun : ℕ → Option (List ℕ) → Bool → Job
-begun number place all = record { number = number; place = place; opens_all = all; runs = true; has_changed_a_row = false }
+-- a job that begins at a time; one that opens all reads every file, and any other those alone that have another stamp than their row
+abbrev pub begun : ℕ → Option (List ℕ) → Bool → ℕ → Job
+begun number place all now =
+    record { number = number; place = place; opens_all = all; runs = true; has_changed_a_row = false; read = now }
 
 -- a job begins, unless one runs
 abbrev pub begins_job : Option (List ℕ) → Bool → MachineState → Meant
 begins_job place all m = do
   free ← must (not m.job.runs) AlreadyUpdating
-  begins (begun (next_job m.job.number) place all) (job_line (next_job m.job.number)) m
+  begins (begun (next_job m.job.number) place all m.clock.now) (job_line (next_job m.job.number)) m
+
+-- when the database was last updated: when its last job read it, or else when the daemon began
+abbrev pub updated_at : MachineState → ℕ
+updated_at m = if m.job.number == 0 then m.clock.began else m.job.read
+
+-- the times, which the wide profile tells
+abbrev pub time_lines : Profile → MachineState → List ℕ
+time_lines Named m = []
+time_lines Wide m = times_lines m.clock.uptime (updated_at m)
 
 -- the name of a tag that the client sees
 abbrev pub shown_type : TagMask → Tag → List ℕ
@@ -123,7 +133,7 @@ database_meaning mask (commands.ListAllInfo path) m = listing (Songs mask) path 
 database_meaning mask (commands.ListInfo path) m =
     let named = unwrap_or path [] in answers (info_at mask m.saved named (row_at m.saved.songs named)) m
 database_meaning mask commands.NotCommands m = says [] m
-database_meaning mask commands.Stats m = says (statistics m.saved.songs) m
+database_meaning mask commands.Stats m = says (statistics m.saved.songs ++ time_lines m.saved.profile m) m
 database_meaning mask (commands.Rescan place) m = begins_job place true m
 database_meaning mask commands.TagTypes m = says (flat_map (shown_type mask) (tags_in (tags_of m.saved.profile))) m
 database_meaning mask (commands.Update place) m = begins_job place false m

@@ -1,6 +1,6 @@
 -- The commands of the queue.
 use Rattle.std.specs.Prelude.{ℕ, ◌+◌, ◌-◌, Bool, true, false, ◌&&◌, nat_lt, List, [], ◌∷◌, length, map, filter}
-use Rattle.std.specs.Prelude.{Option, Some, None, option_map, Result, Err, if◌then◌else◌}
+use Rattle.std.specs.Prelude.{Option, Some, None, option_map, unwrap_or, Result, Err, if◌then◌else◌}
 use Rattle.std.specs.List.{flat_map}
 use Rattle.std.specs.Option.{ok_or}
 use Rattle.std.specs.Result.{result_map_both}
@@ -10,20 +10,31 @@ use Rattle.command_text.specs.declared.command.queue.QueueCommand.TheVariants as
 use Rattle.command_text.specs.declared.refusal.CommandRefusal.{CommandRefusal}
 use Rattle.command_text.specs.declared.refusal.CommandRefusal.TheVariants.{BadIndex, NoCurrentSong, NoSuchSong, NoSuchUri}
 use Rattle.command_text.specs.declared.tag_mask.TagMask.{TagMask}
+use Rattle.play_queue.specs.declared.entry.Entry.{Entry}
 use Rattle.play_queue.specs.Positions.{position_of, positions_of}
 use Rattle.play_queue.specs.Queue.{QueueState, changed_since}
 use Rattle.play_queue.specs.declared.target.Target.{Target}
 use Rattle.play_queue.specs.declared.target.Target.TheVariants.{At, After, Before}
+use Rattle.player_core.specs.Player.{stopped_without_song}
+use Rattle.player_core.specs.declared.playing.PlayState.{PlayState}
+use Rattle.player_core.specs.declared.playing.PlayState.TheVariants.{Stop, Play, Pause}
+use Rattle.profile.specs.declared.profile.Profile.{Profile}
+use Rattle.profile.specs.declared.profile.Profile.TheVariants.{Named, Wide}
 use Rattle.song_db.specs.Query.{number_at}
+use Rattle.state_codec.specs.Applied.{after, refusal_of}
+use Rattle.state_codec.specs.SavedState.{SavedState}
 use Rattle.state_codec.specs.Steps.{◌>>=◌}
+use Rattle.state_codec.specs.declared.op.Op.{Op}
 use Rattle.state_codec.specs.declared.op.Op.TheVariants.{Queue}
+use Rattle.state_codec.specs.declared.op.queue_op.QueueOp.{QueueOp}
 use Rattle.state_codec.specs.declared.op.queue_op.QueueOp.TheVariants.{Delete, Move, Swap, Shuffle, Prio}
 use Rattle.machine_core.specs.Adding.{adds, can_count, place_among}
 use Rattle.machine_core.specs.Entries.{file_info, place_info, position_info}
-use Rattle.machine_core.specs.Meaning.{Meant, must, says, edits}
+use Rattle.machine_core.specs.Meaning.{Meant, does, must, says, edits, refusal_of_all, unless_refused}
 use Rattle.machine_core.specs.Named.{numbers_named}
 use Rattle.machine_core.specs.Spans.{count_of, holds, positions_in, span_in, span_or_all, spans_in, whole}
 use Rattle.machine_core.specs.State.{MachineState, shown_of}
+use Rattle.machine_core.specs.Told.{told}
 use Rattle.machine_core.specs.declared.span.Span.{Span}
 
 -- how many entries there are
@@ -63,9 +74,50 @@ moves block to m = do
   at ← place_in_rest to block m
   edits (Queue (Move block.start block.end at)) [] m
 
+abbrev pub shuffles_plainly : Span → MachineState → Meant
+shuffles_plainly span m = edits (Queue (Shuffle span.start span.end)) [] m
+
+-- the op that brings an entry to a position, at which it stands already where no entry has the id
+abbrev pub bring : List Entry → ℕ → ℕ → QueueOp
+bring entries id to = let at = unwrap_or (position_of entries id) to in Move at (at + 1) to
+
+-- A range is shuffled around an entry of it: it is shuffled, and then the entry comes to its beginning. Both ops are always made, so that
+-- what they take doesn't depend on what the shuffle comes to.
+abbrev pub shuffle_ops : ℕ → Span → SavedState → List Op
+shuffle_ops id span s =
+    Queue (Shuffle span.start span.end)
+    ∷ Queue (bring (after (Queue (Shuffle span.start span.end)) s).queue.entries id span.start)
+    ∷ []
+
+abbrev pub shuffles_around : ℕ → Span → MachineState → Meant
+shuffles_around id span m =
+    unless_refused (told (refusal_of_all (shuffle_ops id span m.saved) m.saved)) (does [] (shuffle_ops id span m.saved) m.player m)
+
+-- in stop no song stays current
+abbrev pub shuffles_stopped : Span → MachineState → Meant
+shuffles_stopped span m =
+    unless_refused (told (refusal_of (Queue (Shuffle span.start span.end)) m.saved))
+    (does [] (Queue (Shuffle span.start span.end) ∷ []) (stopped_without_song m.player) m)
+
+-- the song that plays or is paused comes to the beginning of the range that holds it
+abbrev pub shuffles_playing : Option ℕ → Span → MachineState → Meant
+shuffles_playing None span m = shuffles_plainly span m
+shuffles_playing (Some id) span m =
+    if is_held span (shown_of m).current then shuffles_around id span m else shuffles_plainly span m
+
+abbrev pub shuffles_in : PlayState → Span → MachineState → Meant
+shuffles_in Stop span m = shuffles_stopped span m
+shuffles_in Play span m = shuffles_playing m.player.current span m
+shuffles_in Pause span m = shuffles_playing m.player.current span m
+
+-- the wide profile shuffles as MPD does
+abbrev pub shuffles_by : Profile → Span → MachineState → Meant
+shuffles_by Named span m = shuffles_plainly span m
+shuffles_by Wide span m = shuffles_in m.player.state span m
+
 -- fewer than two entries aren't shuffled
 abbrev pub shuffles : Span → MachineState → Meant
-shuffles span m = if nat_lt (count_of span) 2 then says [] m else edits (Queue (Shuffle span.start span.end)) [] m
+shuffles span m = if nat_lt (count_of span) 2 then says [] m else shuffles_by m.saved.profile span m
 
 -- a single position as a range
 abbrev pub alone : ℕ → ℕ × ℕ

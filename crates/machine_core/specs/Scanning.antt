@@ -19,13 +19,14 @@ use Rattle.machine_core.specs.declared.job.Job.{Job}
 abbrev pub is_running : ℕ → MachineState → Bool
 is_running job m = m.job.runs && m.job.number == job
 
-abbrev pub over : Job → Job
-over job = record job { runs = false }
+-- the job is over at a time
+abbrev pub over : ℕ → Job → Job
+over now job = record job { runs = false; read = now }
 
 -- the job is over; `database` is told where one of its changes changed a row
 abbrev pub ends_scan : MachineState → Happening
 ends_scan m =
-    let after = record m { job = over m.job } in
+    let after = record m { job = over m.clock.now m.job } in
     record { ops = []; after = after; changed = record (changed m after) { database = m.job.has_changed_a_row } }
 
 abbrev pub when_scanned : ℕ → MachineState → Happening

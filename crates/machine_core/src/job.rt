@@ -16,6 +16,8 @@ pub struct Job {
     pub runs: bool,
     /// A change of one of its batches changed a row at its turn.
     pub has_changed_a_row: bool,
+    /// When its songs were read, as a clock told: at its beginning, then at its end. Seconds since the beginning of 1970.
+    pub read: u64,
 }
 
 impl Job {
@@ -34,12 +36,13 @@ impl Job {
             opens_all: false,
             runs: false,
             has_changed_a_row: false,
+            read: 0,
         }
     }
 
-    /// A job of this number that has just begun.
-    pub(crate) fn begun(number: u32, place: Option<Uri>, opens_all: bool) -> Job
-        ensures { result ≡ begun number place opens_all }
+    /// A job of this number that has just begun, at this time.
+    pub(crate) fn begun(number: u32, place: Option<Uri>, opens_all: bool, now: u64) -> Job
+        ensures { result ≡ begun number place opens_all now }
     {
         Job {
             number,
@@ -47,6 +50,7 @@ impl Job {
             opens_all,
             runs: true,
             has_changed_a_row: false,
+            read: now,
         }
     }
 

@@ -8,6 +8,7 @@ mod answer_database;
 mod answer_entries;
 mod answer_lists;
 mod changed;
+pub mod clock;
 mod commands;
 mod current;
 mod edit;
@@ -25,6 +26,7 @@ mod steps;
 mod told;
 pub mod work;
 
+pub use clock::ClockTime;
 pub use happened::Happened;
 pub use job::Job;
 pub use looks::{Looks, MAX_LOOKS};

@@ -1,7 +1,8 @@
-// A machine: the saved half of the state, the player over it, and the scan that runs.
+// A machine: the saved half of the state, the player over it, the scan that runs, and the time.
 ghost use Rattle.std.specs.Prelude.{◌≡◌};
 ghost use Rattle.machine_core.specs.State.{manners_of, started};
 
+use crate::clock::ClockTime;
 use crate::job::Job;
 use player_core::{KeptNext, Manners, PlaySettings, Player};
 use profile::Profile;
@@ -19,12 +20,13 @@ fn manners_of(profile: Profile) -> Manners
     }
 }
 
-/// The daemon without its clients: the half that is saved, the player, and the job of the database.
+/// The daemon without its clients: the half that is saved, the player, the job of the database, and what a clock told.
 #[derive(Drop)]
 pub struct Machine {
     pub(crate) saved: Saved,
     pub(crate) player: Player,
     pub(crate) job: Job,
+    pub(crate) clock: ClockTime,
     // What `status` shows of the current song and the next one, until something of it changes.
     pub(crate) kept: KeptNext,
 }
@@ -43,7 +45,8 @@ impl Model for Machine {
 impl Machine {
     ghost use Rattle.machine_core.specs.State.{settings_of};
 
-    /// A machine that begins with what was saved: the player is stopped without a current song, and no job runs.
+    /// A machine that begins with what was saved: the player is stopped without a current song, no job runs, and no clock has told
+    /// anything.
     pub fn new(alloc: Global, saved: Saved) -> Machine
         ensures { result ≡ started saved }
     {
@@ -51,6 +54,7 @@ impl Machine {
             saved,
             player: Player::new(alloc),
             job: Job::none(),
+            clock: ClockTime::untold(),
             kept: KeptNext::new(),
         }
     }

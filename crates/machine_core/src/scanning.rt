@@ -35,6 +35,7 @@ impl Machine {
         }
         let before = self.before();
         self.job.runs = false;
+        self.job.read = self.clock.now;
         let mut changed = self.changed_since(&before, &[]);
         changed.database = self.job.has_changed_a_row;
         Happened {

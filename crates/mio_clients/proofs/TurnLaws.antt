@@ -23,7 +23,7 @@ use Rattle.mio_clients.specs.declared.part.Part.TheVariants.{Served, Collected, 
 use Rattle.mio_clients.specs.declared.turning.Kept.{Kept}
 use Rattle.mio_clients.specs.declared.turning.Kept.TheVariants as kept
 use Rattle.mio_clients.specs.Events.{asked_by_event, asked_in}
-use Rattle.mio_clients.specs.Connections.{ConnectionsState, IsVacant, IsAlone}
+use Rattle.mio_clients.specs.Connections.{ConnectionsState, IsVacant, IsAlone, with_clock_asked}
 use Rattle.mio_clients.specs.Later.{AllGoOn, IsLater, Loses, no_bytes, no_requests, bytes_for}
 use Rattle.std.specs.List.{AllByRecursion}
 use Rattle.mio_clients.specs.Leaving.{AllLeave, IsLeft, AllFollow, IsFollowed, IsForgotten}
@@ -173,6 +173,21 @@ module _ {S : Type 0} (remaining contents : S → Option (List ℕ)) where
     };
   }
 
+  -- that a clock was asked, or counts as not asked again, matters to no client
+  pub all_asked : (a p : ConnectionsState S) → p ≡ with_clock_asked a → AllFollow remaining contents no_bytes no_requests a p
+  all_asked a p same =
+      all_still remaining contents a p (ap (λ (t : ConnectionsState S). t.clients) same) (ap (λ (t : ConnectionsState S). t.events) same)
+      (ap (λ (t : ConnectionsState S). t.last_id) same) (ap (λ (t : ConnectionsState S). t.left) same)
+
+  pub all_unasked : (a p b : ConnectionsState S) → p ≡ with_clock_asked a → b ≡ record p { clock_second = None }
+      → AllFollow remaining contents no_bytes no_requests a b
+  all_unasked a p b same none =
+      all_still remaining contents a b
+      (ap (λ (t : ConnectionsState S). t.clients) none ∙ ap (λ (t : ConnectionsState S). t.clients) same)
+      (ap (λ (t : ConnectionsState S). t.events) none ∙ ap (λ (t : ConnectionsState S). t.events) same)
+      (ap (λ (t : ConnectionsState S). t.last_id) none ∙ ap (λ (t : ConnectionsState S). t.last_id) same)
+      (ap (λ (t : ConnectionsState S). t.left) none ∙ ap (λ (t : ConnectionsState S). t.left) same)
+
   module _ {D : Type 0} where
     pub serves_none : (a : ConnectionsState S) (ps : List (Part D)) (pass : PassState) → Serves remaining contents true a a ps ps pass pass
     serves_none a ps pass = record {
@@ -221,6 +236,30 @@ module _ {S : Type 0} (remaining contents : S → Option (List ℕ)) where
           (λ i. ap (λ t. t ++ []) (sym (ap (asked_of i) carried ∙ asked i)))
           (all_from a p b (sent_by_served s) no_requests (λ i. asked_by_event i e) (ap (λ (t : ConnectionsState S). t.clients) same)
           (ap (λ (t : ConnectionsState S). t.last_id) same) (ap (λ (t : ConnectionsState S). t.left) same) (λ i. ap (asked_in i) popped) later);
+      kind = ap (λ (t : PassState). t.kind) passed;
+      share = ap (λ (t : PassState). t.share) passed;
+      seen = (let n = ap (λ (t : PassState). t.seen) passed in omega (arith, n, grows));
+      refused = tt;
+      unrefused = λ _. refl;
+      told = λ no. absurd (cc no);
+    }
+
+    -- an event was served by which no client asks
+    pub serves_own : (a p b : ConnectionsState S) (event : Event) (s : ServedEvent D) (ps qs : List (Part D)) (x y : PassState)
+        → p ≡ with_clock_asked a → ((c : ℕ) → asked_of c event ≡ []) → s.turn.asked ≡ event
+        → AllFollow remaining contents (sent_by_served s) no_requests p b → qs ≡ ps ++ Served s ∷ []
+        → y ≡ record { kind = x.kind; seen = s.turn.event; share = x.share + 1 } → x.seen < s.turn.event
+        → Serves remaining contents true a b ps qs x y
+    serves_own a p b event s ps qs x y same nothing carried later added passed grows = record {
+      added = Served s ∷ [];
+      parts = added;
+      later = all_same remaining contents a b (sent_by_served s) (bytes_in (Served s ∷ []))
+          no_requests (requests_in (Served s ∷ []))
+          (λ i. sym (append-nil (sent_by_served s i)))
+          (λ i. ap (λ t. t ++ []) (sym (ap (asked_of i) carried ∙ nothing i)))
+          (all_from a p b (sent_by_served s) no_requests no_requests (ap (λ (t : ConnectionsState S). t.clients) same)
+          (ap (λ (t : ConnectionsState S). t.last_id) same) (ap (λ (t : ConnectionsState S). t.left) same)
+          (λ i. ap (λ (t : ConnectionsState S). asked_in i t.events) (sym same)) later);
       kind = ap (λ (t : PassState). t.kind) passed;
       share = ap (λ (t : PassState). t.share) passed;
       seen = (let n = ap (λ (t : PassState). t.seen) passed in omega (arith, n, grows));
@@ -528,6 +567,12 @@ ends_within (Some most) looks before after within counted more = omega (arith, w
 pub begins_within : {D : Type 0} (bound : Option ℕ) (ps : List (Part D)) → ps ≡ [] → EndsWithin bound (looks_in ps)
 begins_within None ps none = tt
 begins_within (Some most) ps none = (let empty = ap looks_in none in omega (arith, empty))
+
+-- what a clock's event looked at doesn't pass the bound by more than a group
+pub first_within : {D : Type 0} (bound : Option ℕ) (ps qs : List (Part D)) → ps ≡ [] → looks_in qs ≤ looks_in ps + 2 * most_looks
+    → EndsWithin bound (looks_in qs)
+first_within None ps qs none more = tt
+first_within (Some most) ps qs none more = (let empty = ap looks_in none in omega (arith, empty, more))
 
 within_counted : (bound : Option ℕ) (looks total : ℕ) → looks ≤ total → IsWithin bound total → IsWithin bound looks
 within_counted None looks total less h = tt

@@ -1,5 +1,5 @@
 -- The clients that are connected.
-use Rattle.std.specs.Prelude.{◌≡◌, ◌⊎◌, ℕ, ◌≢◌, ◌+◌, ◌-◌, ◌^◌, ◌<◌, ◌≤◌, List, [], ◌∷◌, ◌++◌, Option, Some, None, Bool, true, false, MatchOption, IsSomeAnd, if◌then◌else◌}
+use Rattle.std.specs.Prelude.{◌≡◌, ◌⊎◌, ℕ, ◌≢◌, ◌+◌, ◌-◌, ◌^◌, ◌/◌, ◌==◌, ◌<◌, ◌≤◌, not, List, [], ◌∷◌, ◌++◌, Option, Some, None, Bool, true, false, MatchOption, IsSomeAnd, if◌then◌else◌}
 use Rattle.std.specs.List.{concat}
 use Rattle.std.specs.Io.KnownBytes.{Keeps, Consumes, append_known}
 use Rattle.slab.specs.Slab.{Slab, get, slab_len, Updates}
@@ -24,7 +24,8 @@ pub record QueueState : Type 0 where
 
 -- The clients, each under the key by which it is told to be ready; what they did and was not served yet; the number of the client that
 -- connected last; for how many further events there is room; the clients that were let go of since the last turn, as they were then; for
--- how many further ones there is a place; those that were let go of in that turn; and the time of the turn, in milliseconds.
+-- how many further ones there is a place; those that were let go of in that turn; the time of the turn, in milliseconds; and the second of
+-- that time in which a clock was asked last in this life of the daemon, if one was.
 pub record ConnectionsState (S : Type 0) : Type 0 where
   pub clients : Slab (Client S)
   pub events : List ClientEvent
@@ -34,6 +35,23 @@ pub record ConnectionsState (S : Type 0) : Type 0 where
   pub places : ℕ
   pub gone : List (Client S)
   pub time : ℕ
+  pub clock_second : Option ℕ
+
+-- the second of a time in milliseconds
+abbrev pub second_of : ℕ → ℕ
+second_of time = time / 1000
+
+abbrev pub is_other_second : Option ℕ → ℕ → Bool
+is_other_second None second = true
+is_other_second (Some before) second = not (before == second)
+
+-- a clock is to be asked: none was in the second of the turn
+abbrev pub is_clock_due : {S : Type 0} → ConnectionsState S → Bool
+is_clock_due connections = is_other_second connections.clock_second (second_of connections.time)
+
+-- a clock was asked in it
+abbrev pub with_clock_asked : {S : Type 0} → ConnectionsState S → ConnectionsState S
+with_clock_asked connections = record connections { clock_second = Some (second_of connections.time) }
 
 -- what holds of all connections: there is room for the last event of each client, and a place for it where it is let go of
 pub record AreConnections {S : Type 0} (clients : Slab (Client S)) (queue : QueueState) (last_id free : ℕ) : Type 0 where

@@ -1,5 +1,5 @@
 -- What the parts of a turn of the loop carry.
-use Rattle.std.specs.Prelude.{◌≡◌, ◌≢◌, ℕ, ◌+◌, ◌*◌, ◌≤◌, ◌==◌, min, sum_by, List, [], ◌∷◌, ◌++◌, Bool, true, false, Option, None, Some, if◌then◌else◌}
+use Rattle.std.specs.Prelude.{◌≡◌, ◌≢◌, ◌⊎◌, ℕ, ◌+◌, ◌*◌, ◌≤◌, ◌==◌, min, sum_by, List, [], ◌∷◌, ◌++◌, Bool, true, false, Option, None, Some, if◌then◌else◌}
 use Rattle.command_text.specs.declared.request.Request.{Request}
 use Rattle.daemon_core.specs.declared.event.Event.{Event}
 use Rattle.daemon_core.specs.declared.event.Event.TheVariants as stage_events
@@ -63,6 +63,22 @@ asked_of c (stage_events.Ended ticket) = []
 asked_of c (stage_events.Broken ticket cause) = []
 asked_of c (stage_events.Batch job changes) = []
 asked_of c (stage_events.ScanDone job) = []
+asked_of c (stage_events.Clock time) = []
+
+-- a clock's event
+abbrev pub is_of_clock : Event → Bool
+is_of_clock (stage_events.Clock time) = true
+is_of_clock event = false
+
+-- what a clock told was handed over, or refused
+abbrev pub CarriesClock : {D : Type 0} → Part D → Type 0
+CarriesClock (Served served) = is_of_clock served.turn.asked ≡ true
+CarriesClock (Collected outbox) = ⊥
+CarriesClock (Refused error) = Unit {0}
+
+-- to these parts one of a clock was added, or none
+abbrev pub AddsClock : {D : Type 0} → List (Part D) → List (Part D) → Type 0
+AddsClock {D} before after = (after ≡ before) ⊎ ((part : Part D) × (after ≡ before ++ part ∷ []) × CarriesClock part)
 
 -- the request of a client that a part carries, if it does
 abbrev pub request_of : {D : Type 0} → ℕ → Part D → List Request

@@ -1,12 +1,12 @@
 // The clients of the daemon: who is accepted, read and written, and what of it is told.
-ghost use Rattle.std.specs.Prelude.{◌≡◌, ◌⊎◌, ◌+◌, ◌<◌, ◌≤◌, ℕ, ◌∷◌, [], List, length, true, OnSome, IfOk};
+ghost use Rattle.std.specs.Prelude.{◌≡◌, ◌⊎◌, ◌+◌, ◌<◌, ◌≤◌, ℕ, ◌∷◌, [], List, length, false, true, None, OnSome, IfOk};
 ghost use Rattle.std.specs.Prelude.{◌↔◌, IfErr, IsErrOf, IsTrue, IfSome, MatchOption};
 ghost use Rattle.slab.specs.Slab.{get, slab_len};
 ghost use Rattle.mio_clients.specs.Events.{asked_by_event, asked_in};
 ghost use Rattle.mio_clients.specs.Grouping.{group_len, group_limit};
 ghost use Rattle.mio_clients.specs.Rounds.{IsDealt};
 ghost use Rattle.mio_clients.specs.Waiting.{StaysQuiet};
-ghost use Rattle.mio_clients.specs.Connections.{ConnectionsState, IsFull, IsVacant};
+ghost use Rattle.mio_clients.specs.Connections.{ConnectionsState, IsFull, IsVacant, is_clock_due, with_clock_asked};
 ghost use Rattle.mio_clients.specs.Later.{no_bytes, no_requests, bytes_for, IsFault, Loses};
 ghost use Rattle.std.specs.List.{AllByRecursion};
 ghost use Rattle.mio_clients.specs.Leaving.{AllFollow, IsFollowed, IsForgotten};
@@ -21,6 +21,7 @@ use crate::ready::{Ready, Token};
 use crate::refusal::ClientsError;
 use crate::stream::Stream;
 use crate::{CALL_LIMIT, CLIENT_LIMIT, GROUP_LIMIT, READ_SIZE};
+use daemon_core::ClockTime;
 use std::alloc::{AllocError, Global};
 use std::io::ErrorKind;
 use std::marker::Model;
@@ -95,6 +96,7 @@ impl<S: Stream, L: Listener<S>, P: Ready<S>> Clients<S, L, P> {
         ensures clients { IfOk result (λ c. c.clients.slots ≡ []) }
         ensures events { IfOk result (λ c. c.events ≡ []) }
         ensures last_id { IfOk result (λ c. c.last_id ≡ 0) }
+        ensures asks { IfOk result (λ c. c.clock_second ≡ None) }
     {
         Ok(Clients {
             connections: Connections::new(alloc)?,
@@ -111,6 +113,8 @@ impl<S: Stream, L: Listener<S>, P: Ready<S>> Clients<S, L, P> {
         ensures clients { self.new.clients.slots ≡ [] }
         ensures events { self.new.events ≡ [] }
         ensures last_id { self.new.last_id ≡ self.old.last_id }
+        // In the new life a clock is asked at once.
+        ensures asks { self.new.clock_second ≡ None }
     {
         self.connections.clear();
     }
@@ -139,7 +143,7 @@ impl<S: Stream, L: Listener<S>, P: Ready<S>> Clients<S, L, P> {
 
     // Closes what an earlier call left, waits until something is ready, and looks at the clock.
     pub(crate) fn begin_turn(&mut self)
-        ensures told { (listener : L) × IfSome (L.clock listener) (λ time. self.new.time ≡ time) }
+        ensures told { (listener : L) × IfSome (L.time_told listener) (λ time. self.new.time ≡ time) }
         ensures same { self.new ≡ record self.old { left = []; places = self.new.places; gone = self.old.left; time = self.new.time } }
     {
         self.connections.close_left();
@@ -150,6 +154,25 @@ impl<S: Stream, L: Listener<S>, P: Ready<S>> Clients<S, L, P> {
         };
         let _waited = self.ready.wait(Duration::from_millis(limit));
         self.connections.set_time(self.listener.now());
+    }
+
+    // What a clock tells, where none was asked in the second of the turn.
+    pub(crate) fn next_clock(&mut self) -> Option<ClockTime>
+        ensures asked { self.new ≡ with_clock_asked self.old }
+        ensures once { is_clock_due self.old ≡ false → result ≡ None }
+    {
+        if self.connections.asks_clock() {
+            self.listener.clock()
+        } else {
+            None
+        }
+    }
+
+    // What a clock told was refused: it is asked again in the next turn.
+    pub(crate) fn ask_again(&mut self)
+        ensures { self.new ≡ record self.old { clock_second = None } }
+    {
+        self.connections.forget_clock();
     }
 
     /// Accepts clients until none waits, or for 65,536 calls, and gathers their connects, by rising numbers. Those that wait then, and a

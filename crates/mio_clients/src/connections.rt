@@ -1,8 +1,9 @@
 // Who is connected, under which key and number, and what they did and was not served yet.
 ghost use Rattle.std.specs.Prelude.{◌≡◌, ◌≢◌, ◌⊎◌, ◌↔◌, ◌+◌, ◌-◌, ◌^◌, ◌<◌, ◌≤◌, ℕ, ◌∷◌, [], length, Some, IsSome, IsTrue, MatchOption};
-ghost use Rattle.std.specs.Prelude.{false, true, IfOk, IfSome, OnOk, OnSome};
+ghost use Rattle.std.specs.Prelude.{None, false, true, IfOk, IfSome, OnOk, OnSome};
 ghost use Rattle.slab.specs.Slab.{get, slab_len};
 ghost use Rattle.mio_clients.specs.Connections.{ConnectionsState, IsVacant, IsAt, IsAlone, IsAdmitted, IsFull, IsFailedAt, client_limit};
+ghost use Rattle.mio_clients.specs.Connections.{is_clock_due, is_other_second, with_clock_asked};
 ghost use Rattle.mio_clients.specs.Events.{asked_by_event, asked_in, has_request_of, without};
 ghost use Rattle.mio_clients.specs.Grouping.{group_len};
 ghost use Rattle.mio_clients.specs.Rounds.{IsDealt};
@@ -38,6 +39,8 @@ pub(crate) struct Connections<S> {
     gone: Snapshot<Vec<Client<S>>>,
     // The time of the turn, in milliseconds by the listener's clock.
     time: u64,
+    // The second in which a clock was asked last in this life of the daemon, if one was.
+    clock_second: Option<u64>,
 }
 
 impl<S> Model for Connections<S> {
@@ -55,6 +58,7 @@ impl<S> Model for Connections<S> {
       places = vec_capacity c.left - vec_len c.left;
       gone = c.gone.value.items;
       time = c.time;
+      clock_second = c.clock_second;
     } };
 
     ghost invariant = { λ c. AreConnections c.clients c.queue c.last_id (vec_capacity c.left - vec_len c.left) };
@@ -67,12 +71,23 @@ fn is_refused(reading: Option<Reading>) -> bool
     matches!(reading, Some(Reading::Refused))
 }
 
+// Whether this is another second than that of before, if there was one.
+fn is_other_second(before: Option<u64>, second: u64) -> bool
+    ensures { result ≡ is_other_second before second }
+{
+    match before {
+        None => true,
+        Some(before) => before != second,
+    }
+}
+
 impl<S: Stream> Connections<S> {
     /// No clients, with room for `CLIENT_LIMIT`.
     pub(crate) fn new(alloc: Global) -> Result<Self, AllocError>
         ensures clients { IfOk result (λ c. c.clients.slots ≡ []) }
         ensures events { IfOk result (λ c. c.events ≡ []) }
         ensures last_id { IfOk result (λ c. c.last_id ≡ 0) }
+        ensures asks { IfOk result (λ c. c.clock_second ≡ None) }
     {
         let left = Vec::new(alloc);
         let gone = Snapshot::of(&left);
@@ -83,6 +98,7 @@ impl<S: Stream> Connections<S> {
             left,
             gone,
             time: 0,
+            clock_second: None,
         })
     }
 
@@ -112,6 +128,24 @@ impl<S: Stream> Connections<S> {
         ensures { self.new ≡ record self.old { time = now } }
     {
         self.time = now;
+    }
+
+    /// Whether a clock is to be asked, since none was in the second of the turn. It counts as asked then.
+    pub(crate) fn asks_clock(&mut self) -> bool
+        ensures due { result ≡ is_clock_due self.old }
+        ensures asked { self.new ≡ with_clock_asked self.old }
+    {
+        let second = self.time / 1_000;
+        let is_due = is_other_second(self.clock_second, second);
+        self.clock_second = Some(second);
+        is_due
+    }
+
+    /// No clock counts as asked.
+    pub(crate) fn forget_clock(&mut self)
+        ensures { self.new ≡ record self.old { clock_second = None } }
+    {
+        self.clock_second = None;
     }
 
     // When the client at a key was active last.
@@ -275,10 +309,12 @@ impl<S: Stream> Connections<S> {
         ensures clients { self.new.clients.slots ≡ [] }
         ensures events { self.new.events ≡ [] }
         ensures last_id { self.new.last_id ≡ self.old.last_id }
+        ensures asks { self.new.clock_second ≡ None }
     {
         self.clients.clear();
         self.queue.clear();
         self.left.clear();
+        self.forget_clock();
     }
 
     /// Closes the clients that were let go of.

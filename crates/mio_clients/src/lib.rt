@@ -19,6 +19,7 @@ mod turning;
 
 pub use client::Client;
 pub use clients::Clients;
+pub use daemon_core::ClockTime;
 pub use event::ClientEvent;
 pub use listener::Listener;
 pub use memory::{MemListener, MemReady, MemStream};

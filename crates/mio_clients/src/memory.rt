@@ -5,6 +5,7 @@ use crate::listener::Listener;
 use crate::ready::{Interest, Ready, Token};
 use crate::stream::Stream;
 use client_session::Session;
+use daemon_core::ClockTime;
 use std::alloc::{AllocError, Global};
 use std::collections::VecDeque;
 use std::io::{self, ErrorKind, Read, Write};
@@ -110,7 +111,7 @@ impl<S: Drop> MemListener<S> {
 }
 
 impl<S: Drop> Listener<S> for MemListener<S> {
-    ghost clock = { λ l. Some l.now };
+    ghost time_told = { λ l. Some l.now };
 
     fn accept(&mut self) -> io::Result<S> {
         match self.waiting.pop_front() {
@@ -121,6 +122,10 @@ impl<S: Drop> Listener<S> for MemListener<S> {
 
     fn now(&mut self) -> u64 {
         self.now
+    }
+
+    fn clock(&mut self) -> Option<ClockTime> {
+        None
     }
 
     fn gave_way(&mut self, client: u64, silence: u64) {

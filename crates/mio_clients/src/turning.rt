@@ -5,6 +5,7 @@ ghost use Rattle.slab.specs.Slab.{slab_len};
 ghost use Rattle.live_stage.specs.Numbers.{greatest};
 ghost use Rattle.live_stage.specs.Group.{most_looks};
 ghost use Rattle.std.specs.List.{AllByRecursion};
+ghost use Rattle.mio_clients.specs.Connections.{is_clock_due};
 ghost use Rattle.mio_clients.specs.Events.{asked_by_event, asked_in};
 ghost use Rattle.mio_clients.specs.Grouping.{TakesMany};
 ghost use Rattle.mio_clients.specs.Waiting.{QuietBehind, StaysQuiet, TakesFirst};
@@ -12,7 +13,7 @@ ghost use Rattle.mio_clients.specs.Later.{no_bytes, no_requests, IsLater};
 ghost use Rattle.mio_clients.specs.Leaving.{AllFollow, AllLeave};
 ghost use Rattle.mio_clients.specs.Parts.{bytes_in, requests_in, served_count, refuses, RefusesLast, IsServedAll};
 ghost use Rattle.mio_clients.specs.Parts.{sent_by, sent_by_all, sent_by_served, asked_of, IsKeptOf, IsKeptAs, KeepsNoRequest, Serves};
-ghost use Rattle.mio_clients.specs.Parts.{looks_in, looks_of, stage_event_of, goes_on_with, EndsWithin, IsWithin};
+ghost use Rattle.mio_clients.specs.Parts.{looks_in, looks_of, stage_event_of, goes_on_with, AddsClock, EndsWithin, IsWithin};
 ghost use Rattle.mio_clients.specs.Rounds.{IsDealt};
 ghost use Rattle.mio_clients.specs.Yielding.{NowWaits};
 
@@ -174,7 +175,7 @@ impl<S: Stream, L: Listener<S>, P: Ready<S>> Clients<S, L, P> {
         }
     }
 
-    // Serves what was gathered, and then collects.
+    // Tells the time, serves what was gathered, and then collects.
     fn serve_all<R: Wait, D: Disk, C: Ledger, Q: Ledger, T: Ledger>(
         &mut self,
         rt: &R,
@@ -193,13 +194,78 @@ impl<S: Stream, L: Listener<S>, P: Ready<S>> Clients<S, L, P> {
         ensures quiet { refuses parts.new.items ≡ false → IsWithin bound (looks_in parts.new.items) → QuietBehind zero self.new.events }
         ensures bounded { EndsWithin bound (looks_in parts.new.items) }
     {
-        let (goes_on, pass) = self.serve_each(rt, alloc, stage, pass, parts, bound);
+        let (goes_on, pass) = self.serve_in_time(rt, alloc, stage, pass, parts, bound);
         if goes_on {
             let outbox = stage.collect(rt, alloc);
             self.give_outbox(&outbox, Sending::AtOnce);
             parts.push_reserved(Part::Collected(outbox));
         }
         pass
+    }
+
+    // Tells the time, and serves the events that were gathered; `false` where one is refused.
+    fn serve_in_time<R: Wait, D: Disk, C: Ledger, Q: Ledger, T: Ledger>(
+        &mut self,
+        rt: &R,
+        alloc: Global,
+        stage: &SharedStage<D, C, Q, T>,
+        pass: Pass<C, Q, T>,
+        parts: &mut Vec<Part<D>>,
+        bound: Option<u64>,
+    ) -> (bool, Pass<C, Q, T>)
+        requires empty { parts.old.items ≡ [] }
+        requires room { vec_len parts.old < vec_capacity parts.old }
+        ensures serves { Serves S.remaining S.contents result.0 self.old self.new parts.old.items parts.new.items pass result.1 }
+        ensures quiet { result.0 ≡ true → IsWithin bound (looks_in parts.new.items) → QuietBehind zero self.new.events }
+        ensures bounded { EndsWithin bound (looks_in parts.new.items) }
+        ensures room { result.0 ≡ true → vec_len parts.new < vec_capacity parts.new }
+    {
+        let (is_told, pass) = self.serve_clock(rt, alloc, stage, pass, parts);
+        if !is_told {
+            return (false, pass);
+        }
+        self.serve_each(rt, alloc, stage, pass, parts, bound)
+    }
+
+    // Tells the stage what a clock tells; `false` where the turn ends.
+    fn serve_clock<R: Wait, D: Disk, C: Ledger, Q: Ledger, T: Ledger>(
+        &mut self,
+        rt: &R,
+        alloc: Global,
+        stage: &SharedStage<D, C, Q, T>,
+        pass: Pass<C, Q, T>,
+        parts: &mut Vec<Part<D>>,
+    ) -> (bool, Pass<C, Q, T>)
+        requires room { vec_len parts.old < vec_capacity parts.old }
+        ensures serves { Serves S.remaining S.contents result.0 self.old self.new parts.old.items parts.new.items pass result.1 }
+        ensures looks { looks_in parts.new.items ≤ looks_in parts.old.items + 2 * most_looks }
+        ensures told { AddsClock parts.old.items parts.new.items }
+        // Once in a second, and again where it was refused.
+        ensures once { is_clock_due self.old ≡ false → parts.new.items ≡ parts.old.items }
+        ensures again { result.0 ≡ false → self.new.clock_second ≡ None }
+        ensures room { result.0 ≡ true → vec_len parts.new < vec_capacity parts.new }
+    {
+        let Some(time) = self.next_clock() else {
+            return (true, pass);
+        };
+        if parts.reserve(2).is_err() {
+            self.ask_again();
+            parts.push_reserved(Part::Refused(StageError::NoMemory));
+            return (false, pass);
+        }
+        match stage.serve(rt, alloc, pass, Event::Clock(time)) {
+            Ok((served, pass)) => {
+                self.give_served(&served, None, Sending::AtOnce);
+                let told = Part::Served(served);
+                parts.push_reserved(told);
+                (true, pass)
+            }
+            Err((error, pass)) => {
+                self.ask_again();
+                parts.push_reserved(Part::Refused(error));
+                (false, pass)
+            }
+        }
     }
 
     // Serves the events that were gathered, in order, until they looked at more than is allowed; `false` where one is refused.

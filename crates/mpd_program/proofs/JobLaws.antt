@@ -7,6 +7,7 @@ use Rattle.song_db.specs.declared.change.RowChange.{RowChange}
 use Rattle.machine_core.specs.Happening.{Happening, nothing_happens}
 use Rattle.machine_core.specs.Scanning.{is_running, kept_changes, telling, finds, when_found, when_scanned}
 use Rattle.machine_core.specs.State.{MachineState}
+use Rattle.machine_core.specs.declared.clock.ClockTime.{ClockTime}
 use Rattle.daemon_core.specs.declared.event.Event.TheVariants as events
 use Rattle.daemon_core.specs.Session.{Acted}
 use Rattle.daemon_core.specs.State.{State}
@@ -59,3 +60,8 @@ end_stops n m is = rw (is.runs, eq-eqb m.job.number n is.same) refl
 pub end_idles : (n : ℕ) (s t : State) → StepsTo (events.ScanDone n) s t → IsRunning n s.machine.job → RunsNone t.machine.job
 unfolding step
 end_idles n s t h is = ap (λ (v : State). v.machine.job.runs) h.state ∙ end_stops n s.machine is
+
+-- a clock's event is nothing to it
+pub clock_idles : (time : ClockTime) (s t : State) → StepsTo (events.Clock time) s t → RunsNone s.machine.job → RunsNone t.machine.job
+unfolding step
+clock_idles time s t h is = ap (λ (v : State). v.machine.job.runs) h.state ∙ is

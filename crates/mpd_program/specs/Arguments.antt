@@ -2,7 +2,7 @@
 use Rattle.std.specs.Prelude.{ℕ, List, codes, ◌&&◌, ◌||◌, Option, Some, None, string_bytes, if◌then◌else◌}
 use Rattle.std.specs.Str.{bytes_eq}
 use Rattle.mpd_program.specs.declared.arguments.Task.{Task}
-use Rattle.mpd_program.specs.declared.arguments.Task.TheVariants.{Help, Version, ConsoleInMemory, Console, StockConsole, Create, Serve, Look, Salvage}
+use Rattle.mpd_program.specs.declared.arguments.Task.TheVariants.{Help, Version, ConsoleInMemory, Console, Create, Serve, Look, Salvage}
 
 -- a task, with the path of its configuration
 pub data Asked : Type 0 where
@@ -10,7 +10,6 @@ pub data Asked : Type 0 where
   version : Asked
   in_memory : Asked
   console : List ℕ → Asked
-  stock_console : List ℕ → Asked
   create : List ℕ → Asked
   serve : List ℕ → Asked
   look : List ℕ → Asked
@@ -22,7 +21,6 @@ task_seen Help = help
 task_seen Version = version
 task_seen ConsoleInMemory = in_memory
 task_seen (Console path) = console (string_bytes path)
-task_seen (StockConsole path) = stock_console (string_bytes path)
 task_seen (Create path) = create (string_bytes path)
 task_seen (Serve path) = serve (string_bytes path)
 task_seen (Look path) = look (string_bytes path)
@@ -41,11 +39,6 @@ task_of first (Some path) =
     else if bytes_eq first (codes "serve") then Some (serve path)
     else if bytes_eq first (codes "look") then Some (look path)
     else None
-
--- the task of three words
-abbrev pub task_of_three : List ℕ → List ℕ → List ℕ → Option Asked
-task_of_three first option path =
-    if bytes_eq first (codes "console") && bytes_eq option (codes "--stock-clients") then Some (stock_console path) else None
 
 -- the task of four words
 abbrev pub task_of_four : List ℕ → List ℕ → List ℕ → List ℕ → Option Asked

@@ -21,7 +21,7 @@ abbrev pub ◌>>=◌ : {A B : Type 0} → Option A → (A → Option B) → Opti
 None >>= f = None
 
 -- The paths as they stand, the key of 32 bytes, where to listen and to play, where these are said, the form of the sound, which files are
--- songs, what reads others, whether a translator stands before clients, and whether the log says more.
+-- songs, what reads others, whether the clients of MPD are served, and whether the log says more.
 pub record Settings : Type 0 where
   pub music : List ℕ
   pub journal_a : List ℕ

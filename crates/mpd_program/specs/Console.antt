@@ -26,7 +26,7 @@ asked_by c requests = map (λ r. events.Request c r) requests
 abbrev pub events_of : ℕ → List Request → List Event
 events_of c requests = events.Connect c ∷ asked_by c requests
 
--- What of an event the client asked for: the event itself, and nothing of those of a job, which a request of before started.
+-- What of an event the client asked for: the event itself, and nothing of those of a job, which a request of before started, nor of a clock.
 abbrev pub asked : Event → List Event
 asked (events.Connect c) = events.Connect c ∷ []
 asked (events.Request c request) = events.Request c request ∷ []
@@ -36,6 +36,7 @@ asked (events.Ended ticket) = events.Ended ticket ∷ []
 asked (events.Broken ticket cause) = events.Broken ticket cause ∷ []
 asked (events.Batch number changes) = []
 asked (events.ScanDone number) = []
+asked (events.Clock time) = []
 
 -- what the client asked for in a history, the oldest first
 abbrev pub asked_in : List Entry → List Event
@@ -62,6 +63,7 @@ ComesInTurn job (events.Ended ticket) = Unit {0}
 ComesInTurn job (events.Broken ticket cause) = Unit {0}
 ComesInTurn job (events.Batch number changes) = IsRunning number job
 ComesInTurn job (events.ScanDone number) = IsRunning number job
+ComesInTurn job (events.Clock time) = Unit {0}
 
 -- each event of a job came while that job ran, and each request while none did
 abbrev pub JobsInTurn : SavedState → List Entry → Type 0

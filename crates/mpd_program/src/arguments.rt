@@ -1,6 +1,6 @@
 //! What the words of the command line ask for.
 ghost use Rattle.std.specs.Prelude.{◌≡◌, option_map, string_bytes};
-ghost use Rattle.mpd_program.specs.Arguments.{task_of, task_of_three, task_of_four, task_seen};
+ghost use Rattle.mpd_program.specs.Arguments.{task_of, task_of_four, task_seen};
 
 use std::env::{self, Env};
 use std::io;
@@ -16,8 +16,6 @@ pub enum Task {
     ConsoleInMemory,
     /// `console CONFIG`: over the journal of the configuration.
     Console(String),
-    /// `console --stock-clients CONFIG`: the same for a client that speaks all of MPD.
-    StockConsole(String),
     /// `create CONFIG`: make the journal of the configuration.
     Create(String),
     /// `serve CONFIG`: be the daemon of the configuration.
@@ -42,17 +40,6 @@ impl Task {
             Some(path) if first == "serve" => Some(Task::Serve(path)),
             Some(path) if first == "look" => Some(Task::Look(path)),
             _ => None,
-        }
-    }
-
-    /// The task of three words behind the program's name.
-    fn from_three(first: &str, option: &str, path: String) -> Option<Task>
-        ensures { option_map task_seen result ≡ task_of_three first.now option.now (string_bytes path) }
-    {
-        if first == "console" && option == "--stock-clients" {
-            Some(Task::StockConsole(path))
-        } else {
-            None
         }
     }
 
@@ -81,7 +68,7 @@ impl Task {
             return Ok(Task::from_words(first.as_str(), Some(second)));
         };
         let Some(fourth) = args.next() else {
-            return Ok(Task::from_three(first.as_str(), second.as_str(), third));
+            return Ok(None);
         };
         if args.next().is_some() {
             return Ok(None);

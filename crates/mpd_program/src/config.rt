@@ -61,7 +61,7 @@ pub struct Config {
     pub formats: Forms,
     /// The socket of what reads songs of other forms: none where the text doesn't say.
     pub decoder: Option<String>,
-    /// Whether stock clients of MPD are served, by a translator and with all of MPD: not where the text doesn't say.
+    /// Whether the daemon knows more of MPD than the named subset: what stock clients ask for: not where the text doesn't say.
     pub stock_clients: bool,
     /// Whether the log has a line for each file that a job left out: not where the text doesn't say.
     pub debug: bool,

@@ -10,6 +10,7 @@ mod scanning;
 mod sending;
 mod serving;
 
+use crate::daemon_clock::DaemonClock;
 use client_session::Session;
 use disk_model::Disk;
 use live_stage::{Live, Refused, laws};
@@ -121,6 +122,7 @@ fn serve_life<D: Disk, F: Folder, R: Read, W: Write>(
     client: u64,
     folder: &mut F,
     rules: LibraryRules,
+    clock: Option<&DaemonClock<'_>>,
     reader: &mut R,
     writer: &mut W,
 ) -> ClientEnd<D>
@@ -143,6 +145,7 @@ fn serve_life<D: Disk, F: Folder, R: Read, W: Write>(
         client,
         folder,
         rules,
+        clock,
         writer,
     };
     let served = service.serve_client(reader);
@@ -153,6 +156,7 @@ fn serve_life<D: Disk, F: Folder, R: Read, W: Write>(
         client: _client,
         folder: _folder,
         rules: _rules,
+        clock: _clock,
         writer: _writer,
     } = service;
     // As long as no disk failed, the files give its state.
@@ -213,7 +217,8 @@ fn ended<D>(ending: Ending, migrated: bool, last: ClientEnd<D>) -> ConsoleEnd<D>
 /// until a request closes it.
 ///
 /// Where a request began a job of the database, the job's scan over the folder follows at once: before the next request all of the
-/// folder, or of the part that was asked for, is read, by these rules, and the job is over.
+/// folder, or of the part that was asked for, is read, by these rules, and the job is over. Where a clock is given, it tells the time
+/// before each request.
 ///
 /// After a disk fault that client is closed, the journal is opened again, and a new client is served with what is left of the
 /// input. After a second one it gives up.
@@ -224,6 +229,7 @@ pub fn run_console<D: Disk, F: Folder, R: Read, W: Write>(
     b: D,
     folder: &mut F,
     rules: LibraryRules,
+    clock: Option<&DaemonClock<'_>>,
     reader: &mut R,
     writer: &mut W,
 ) -> ConsoleEnd<D>
@@ -257,6 +263,7 @@ pub fn run_console<D: Disk, F: Folder, R: Read, W: Write>(
         FIRST_CLIENT,
         folder,
         rules,
+        clock,
         reader,
         writer,
     );
@@ -279,6 +286,7 @@ pub fn run_console<D: Disk, F: Folder, R: Read, W: Write>(
         SECOND_CLIENT,
         folder,
         rules,
+        clock,
         reader,
         writer,
     );

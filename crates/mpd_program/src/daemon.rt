@@ -4,7 +4,6 @@ ghost use Rattle.std.specs.Thread.{IsSync};
 ghost use Rattle.mpd_program.specs.Daemon.{exit_of_daemon};
 
 use crate::calls::{CallWatch, Calls};
-use crate::clocked_folder::ClockedFolder;
 use crate::config::Config;
 use crate::config_key::ConfigKey;
 use crate::config_lines::ConfigText;
@@ -33,6 +32,7 @@ use mio::Waker;
 use mio::net::{TcpListener, UnixListener};
 use mio_clients::{Clients, Socket, SocketListener, SocketReady};
 use mpd_server::{Opened, ServeEnd, ServeStatus, Stop, Workers, open_journal};
+use profile::Profile;
 use song_output::SoundOutput;
 use stage_workers::Wake;
 use std::alloc::AllocError;
@@ -41,7 +41,6 @@ use std::net::SocketAddr;
 use std::sync::Wait;
 use std::thread::{self, Threads};
 use std::time::Clock;
-use stock_streams::{StockListener, StockReady, StockStream};
 
 /// Ends a wait of the loop.
 #[derive(Drop)]
@@ -122,6 +121,14 @@ fn readiness(
     Ok((ready, LoopWaker { waker }))
 }
 
+/// The clock, if the daemon goes by one.
+fn told_clock<'a>(config: &ServeConfig, clock: &'a DaemonClock<'a>) -> Option<&'a DaemonClock<'a>> {
+    match config.profile() {
+        Profile::Named => None,
+        Profile::Wide => Some(clock),
+    }
+}
+
 /// Listens, with no client yet.
 fn listen<'a>(
     rt: &'a HostRuntime,
@@ -135,10 +142,9 @@ fn listen<'a>(
     match readiness(rt, &mut listener) {
         Ok((ready, wake)) => {
             let alloc = rt.alloc();
-            let guarded = GuardedListener::new(alloc, ToldListener::new(rt, listener, calls));
-            let listener = StockListener::new(alloc, guarded, config.stock_clients, clock);
-            let ready = StockReady::new(GuardedReady::new(ready));
-            let clients = Clients::new(alloc, listener, ready)?;
+            let told = ToldListener::new(rt, listener, calls, told_clock(config, clock));
+            let guarded = GuardedListener::new(alloc, told);
+            let clients = Clients::new(alloc, guarded, GuardedReady::new(ready))?;
             Ok((clients, wake))
         }
         Err(error) => Err(cannot_listen(rt, "epoll", error)),
@@ -227,19 +233,13 @@ fn songs<'a>(
 }
 
 /// What the daemon's threads work on.
-type DaemonWorkers<'a> = Workers<
-    Songs<'a>,
-    ClockedFolder<'a, Songs<'a>>,
-    Output<'a>,
-    StopFlag,
-    LoopWaker,
->;
+type DaemonWorkers<'a> = Workers<Songs<'a>, Songs<'a>, Output<'a>, StopFlag, LoopWaker>;
 
 /// The clients of a daemon that listens: of what speaks HTTP nothing is served.
 type DaemonClients<'a> = Clients<
-    StockStream<Guarded<Socket>, &'a DaemonClock<'a>>,
-    StockListener<GuardedListener<ToldListener<'a>>, &'a DaemonClock<'a>>,
-    StockReady<GuardedReady<SocketReady>>,
+    Guarded<Socket>,
+    GuardedListener<ToldListener<'a>>,
+    GuardedReady<SocketReady>,
 >;
 
 /// So many descriptors take a hundred clients, and what is open beside them.
@@ -275,7 +275,7 @@ fn begin<'a>(
     let _cleared = output.clear();
     let workers = Workers {
         sources: songs(rt, config, &stop, player)?,
-        folder: ClockedFolder::new(songs(rt, config, &stop, scan)?, clock),
+        folder: songs(rt, config, &stop, scan)?,
         rules: rules_of(config.profile(), config.formats, config.decoder.is_some()),
         output: SoundOutput {
             writer: output,

@@ -1,17 +1,14 @@
-// What a clock knows of the daemon.
-use std::sync::atomic::{AtomicU64, Ordering};
+// What a clock tells of the daemon.
+use mio_clients::ClockTime;
 use std::time::{Instant, SystemTime, UNIX_EPOCH};
-use stock_streams::{DaemonTimes, TellsTimes};
 
-/// Since when the daemon runs, and when its database was last updated. All connections and threads share one.
-///
-/// A clock that fails tells 0.
+/// Since when the daemon runs. A clock that fails tells 0.
 #[derive(Drop)]
 pub struct DaemonClock<'a> {
     rt: &'a HostRuntime,
     began: Option<Instant>,
     // Seconds since the beginning of 1970.
-    updated: AtomicU64,
+    began_at: u64,
 }
 
 // How many seconds have passed since the beginning of 1970.
@@ -31,18 +28,12 @@ impl<'a> DaemonClock<'a> {
         DaemonClock {
             rt,
             began: Instant::now(rt).ok(),
-            updated: AtomicU64::new(seconds_now(rt)),
+            began_at: seconds_now(rt),
         }
     }
 
-    /// The database is being updated.
-    pub fn update(&self) {
-        self.updated.store(seconds_now(self.rt), Ordering::SeqCst);
-    }
-}
-
-impl TellsTimes for &DaemonClock<'_> {
-    fn times(&self) -> DaemonTimes {
+    /// What the time is now.
+    pub fn time(&self) -> ClockTime {
         let uptime = match &self.began {
             None => 0,
             Some(began) => match began.elapsed(self.rt) {
@@ -50,9 +41,10 @@ impl TellsTimes for &DaemonClock<'_> {
                 Err(_) => 0,
             },
         };
-        DaemonTimes {
+        ClockTime {
+            began: self.began_at,
             uptime,
-            db_update: self.updated.load(Ordering::SeqCst),
+            now: seconds_now(self.rt),
         }
     }
 }

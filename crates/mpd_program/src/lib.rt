@@ -3,13 +3,12 @@
 
 pub mod arguments;
 mod calls;
-mod clocked_folder;
 pub mod config;
 pub mod config_key;
 mod config_lines;
 pub mod console;
 mod daemon;
-mod daemon_clock;
+pub mod daemon_clock;
 mod daemon_decoder;
 mod error_lines;
 pub mod exit;

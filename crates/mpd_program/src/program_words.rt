@@ -13,7 +13,7 @@ const NOTE_LIMIT: u64 = 1_024;
 
 /// The tasks, as words of the command line.
 pub(crate) const TASKS: &str =
-    "mpd_daemon create CONFIG | console [[--stock-clients] CONFIG] | serve CONFIG | look [--salvage TO] CONFIG";
+    "mpd_daemon create CONFIG | console [CONFIG] | serve CONFIG | look [--salvage TO] CONFIG";
 
 /// Says which tasks there are.
 pub(crate) fn tell_help(rt: &HostRuntime) {
@@ -23,7 +23,6 @@ pub(crate) fn tell_help(rt: &HostRuntime) {
     let _printed = println!(rt;
         "  console CONFIG                  serves one client on standard input and output"
     );
-    let _printed = println!(rt; "  console --stock-clients CONFIG  the same for a client of MPD");
     let _printed = println!(rt;
         "  console                         one client over an empty journal in memory"
     );

@@ -30,7 +30,7 @@ pub struct ServeConfig {
     pub formats: Forms,
     /// The socket of what reads songs of other forms.
     pub decoder: Option<String>,
-    /// Whether stock clients of MPD are served, by a translator and with all of MPD.
+    /// Whether the daemon knows more of MPD than the named subset: what stock clients ask for.
     pub stock_clients: bool,
     /// Whether the log has a line for each file that a job left out.
     pub debug: bool,

@@ -35,7 +35,6 @@ use std::io::{self, ErrorKind, Read};
 use std::sync::Wait;
 use std::thread::Threads;
 use std::time::Clock;
-use stock_streams::StockTalk;
 
 /// Does what the command line asks for, and says how the program ends.
 ///
@@ -74,8 +73,7 @@ fn run<R: Threads + Wait + Clock + Log + Sync>(
             Ok(())
         }
         Task::ConsoleInMemory => console_in_memory(rt),
-        Task::Console(path) => console(rt, read_config(rt, path)?, false),
-        Task::StockConsole(path) => stock_console(rt, read_config(rt, path)?),
+        Task::Console(path) => console(rt, read_config(rt, path)?),
         Task::Create(path) => create(rt, &read_config(rt, path)?),
         Task::Look(path) => look(rt, &read_config(rt, path)?),
         Task::Salvage(to, path) => salvage(rt, &read_config(rt, path)?, to.as_str()),
@@ -288,6 +286,11 @@ fn serve<D: Disk + Drop, F: Folder>(
     rules: LibraryRules,
 ) -> ConsoleEnd<D> {
     let (mut reader, mut writer) = (rt.reader(), io::writer(rt));
+    let clock = DaemonClock::new(rt);
+    let told = match profile {
+        Profile::Named => None,
+        Profile::Wide => Some(&clock),
+    };
     run_console(
         rt.alloc(),
         profile,
@@ -295,32 +298,7 @@ fn serve<D: Disk + Drop, F: Folder>(
         b,
         folder,
         rules,
-        &mut reader,
-        &mut writer,
-    )
-}
-
-/// The same for a client that speaks all of MPD.
-fn serve_stock<D: Disk + Drop, F: Folder>(
-    rt: &HostRuntime,
-    profile: Profile,
-    a: D,
-    b: D,
-    folder: &mut F,
-    rules: LibraryRules,
-) -> ConsoleEnd<D> {
-    let alloc = rt.alloc();
-    let clock = DaemonClock::new(rt);
-    let talk = StockTalk::new(alloc, &clock);
-    let mut reader = talk.reader(rt.reader());
-    let mut writer = talk.writer(io::writer(rt));
-    run_console(
-        alloc,
-        profile,
-        a,
-        b,
-        folder,
-        rules,
+        told,
         &mut reader,
         &mut writer,
     )
@@ -374,17 +352,8 @@ fn console_in_memory(rt: &HostRuntime) -> Result<(), Exit> {
     }
 }
 
-/// Serves one client that speaks all of MPD over the journal and the songs of the configuration, which is to serve stock clients.
-fn stock_console(rt: &HostRuntime, config: Config) -> Result<(), Exit> {
-    if !config.stock_clients {
-        say(rt, "--stock-clients: set stock_clients = true in CONFIG");
-        return Err(Exit::BadConfiguration);
-    }
-    console(rt, config, true)
-}
-
-/// Serves one client over the journal and the songs of the configuration, one that speaks all of MPD where its requests are translated.
-fn console(rt: &HostRuntime, config: Config, translates: bool) -> Result<(), Exit> {
+/// Serves one client over the journal and the songs of the configuration.
+fn console(rt: &HostRuntime, config: Config) -> Result<(), Exit> {
     let profile = config.profile();
     let Config {
         music,
@@ -407,11 +376,7 @@ fn console(rt: &HostRuntime, config: Config, translates: bool) -> Result<(), Exi
     };
     let folder = AsWave { folder, forms };
     let mut songs = Decoded { folder, decoder };
-    let end = if translates {
-        serve_stock(rt, profile, a, b, &mut songs, rules)
-    } else {
-        serve(rt, profile, a, b, &mut songs, rules)
-    };
+    let end = serve(rt, profile, a, b, &mut songs, rules);
     if end.migrated {
         tell_migration(rt, profile);
     }

@@ -1,8 +1,9 @@
 // Where clients connect, with a line on standard error where they can't.
 use crate::calls::CallWatch;
+use crate::daemon_clock::DaemonClock;
 use crate::error_lines::{TakenLog, WatchedLines};
 use log::{Log, warn};
-use mio_clients::{Listener, Socket, SocketListener};
+use mio_clients::{ClockTime, Listener, Socket, SocketListener};
 use mpd_server::TimedLimit;
 use std::io::{self, ErrorKind};
 use std::time::{Duration, Instant};
@@ -32,6 +33,8 @@ pub struct ToldListener<'a> {
     giving_way: TimedLimit,
     standing: TimedLimit,
     calls: MusicCalls,
+    // The daemon's clock, if it goes by one.
+    clock: Option<&'a DaemonClock<'a>>,
     // When they were made, and how many milliseconds had passed since when that was last asked.
     began: Option<Instant>,
     now: u64,
@@ -53,7 +56,12 @@ fn milliseconds(passed: Duration) -> u64 {
 }
 
 impl<'a> ToldListener<'a> {
-    pub fn new(rt: &'a HostRuntime, sockets: SocketListener, calls: MusicCalls) -> Self {
+    pub fn new(
+        rt: &'a HostRuntime,
+        sockets: SocketListener,
+        calls: MusicCalls,
+        clock: Option<&'a DaemonClock<'a>>,
+    ) -> Self {
         ToldListener {
             log: TakenLog { rt },
             lines: WatchedLines::new(rt),
@@ -63,6 +71,7 @@ impl<'a> ToldListener<'a> {
             giving_way: TimedLimit::new(rt, MOST_LINES, MINUTE),
             standing: TimedLimit::new(rt, MOST_LINES, MINUTE),
             calls,
+            clock,
             began: Instant::now(rt).ok(),
             now: 0,
         }
@@ -128,6 +137,13 @@ impl Listener<Socket> for ToldListener<'_> {
         }
         self.tell_standing();
         self.now
+    }
+
+    fn clock(&mut self) -> Option<ClockTime> {
+        match &self.clock {
+            Some(clock) => Some(clock.time()),
+            None => None,
+        }
     }
 
     fn gave_way(&mut self, client: u64, silence: u64) {

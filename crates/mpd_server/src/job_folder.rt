@@ -1,7 +1,7 @@
 // The folder of one job, of which no more than so much is read.
 ghost use Rattle.std.specs.Prelude.{◌≡◌, ◌+◌, ◌<◌, ◌≤◌, Ok, Err, Some, None, IfOk, IfSome, IsOkUnless, MatchOption};
 ghost use Rattle.song_files.specs.Folder.{bytes_at, stamp_at};
-ghost use Rattle.song_files.specs.Listing.{IsListing, IsNoFile, entries_of};
+ghost use Rattle.song_files.specs.Listing.{AreStamped, IsListing, IsNoFile, entries_of};
 
 use song_files::{FileStamp, Folder, FolderEntry, FolderFault};
 use std::alloc::Global;
@@ -78,6 +78,8 @@ impl<F: Folder> Folder for JobFolder<'_, F> {
             self.new.visits ≡ record self.old.visits { folders = self.old.visits.folders + 1 } }
         ensures listed { F.honest self.old.files.now →
             IfOk result (λ listing. IsListing (F.files self.old.files.now) path.now (entries_of listing)) }
+        ensures stamps { F.honest self.old.files.now →
+            IfOk result (λ listing. AreStamped (F.files self.old.files.now) path.now (entries_of listing)) }
         ensures no_file { F.honest self.old.files.now → IfOk result (IsNoFile (F.files self.old.files.now) path.now) }
         ensures steady { ⊥ → IsOkUnless result FolderFault.NoMemory × ⊥ }
         ensures honest { F.honest self.old.files.now → F.honest self.new.files.now }

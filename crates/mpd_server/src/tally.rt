@@ -19,8 +19,8 @@ const TEN_SECONDS: u64 = 10_000;
 /// What was found in the files that a job has read.
 #[derive(Clone, Copy, Debug)]
 pub(crate) struct Tally {
-    /// Songs, and those of them that were known before.
-    songs: u64,
+    /// Songs that were opened, and those of them that were known before.
+    opened: u64,
     known: u64,
     /// Rows that are kept, since a folder or a file was not read.
     kept: u64,
@@ -37,7 +37,7 @@ pub(crate) struct Tally {
 
 impl Tally {
     const NONE: Tally = Tally {
-        songs: 0,
+        opened: 0,
         known: 0,
         kept: 0,
         not_wave: 0,
@@ -87,14 +87,6 @@ impl Before {
             .binary_search_by(|song| song.uri.as_str().cmp(path))
             .ok()?;
         self.known.get(place)
-    }
-
-    // Whether a scan passes by the file at a path, which has this stamp, as one that hasn't changed.
-    fn passes_by(&self, path: &str, stamp: FileStamp) -> bool {
-        match self.at(path) {
-            Some(song) => song.stamp == Some(stamp),
-            None => false,
-        }
     }
 }
 
@@ -216,30 +208,9 @@ impl<F: Folder, R: Log> TalliedFolder<'_, F, R> {
 
     // A file was read that is a song.
     fn note_song(&mut self, path: &str) {
-        self.tally.songs = self.tally.songs.saturating_add(1);
+        self.tally.opened = self.tally.opened.saturating_add(1);
         if self.is_known(path) {
             self.tally.known = self.tally.known.saturating_add(1);
-        }
-    }
-
-    // A file was looked at. One that hasn't changed isn't opened: its song is there. One that couldn't be looked at isn't opened either.
-    fn note_look(&mut self, path: &str, looked: &Result<Option<FileStamp>, FolderFault>) {
-        match looked {
-            Ok(Some(stamp)) => {
-                let is_passed_by = match &self.before {
-                    Some(before) => before.passes_by(path, *stamp),
-                    None => false,
-                };
-                if is_passed_by {
-                    self.note_song(path);
-                    self.unlisted = None;
-                }
-            }
-            Err(FolderFault::Source) => {
-                self.note_file(path);
-                self.unlisted = None;
-            }
-            _ => {}
         }
     }
 
@@ -283,10 +254,15 @@ impl<F: Folder, R: Log> TalliedFolder<'_, F, R> {
         }
     }
 
-    // Says what the job came to, before which so many rows were known.
-    fn tell(&self, job: u32, before: u64, changed: usize) {
+    // Says what the job came to, before which so many rows were known. Songs whose files haven't changed weren't opened.
+    fn tell(&self, job: u32, before: u64, scanned: Scanned) {
+        let Scanned {
+            replaced: changed,
+            dropped: gone,
+            is_left_off: _,
+        } = scanned;
         let Tally {
-            songs,
+            opened,
             known,
             kept,
             not_wave,
@@ -296,9 +272,10 @@ impl<F: Folder, R: Log> TalliedFolder<'_, F, R> {
             files,
             is_full: _,
         } = self.tally;
-        let found = songs.saturating_sub(known);
+        let found = opened.saturating_sub(known);
         let new = found.min((MAX_ROWS as u64).saturating_sub(before));
-        let gone = before.saturating_sub(known).saturating_sub(kept);
+        let unread = before.saturating_sub(known).saturating_sub(kept);
+        let songs = opened.saturating_add(unread.saturating_sub(gone as u64));
         let hint = self.hint(not_wave.saturating_add(other_format).saturating_add(broken));
         info!(self.rt;
             "update {job}: {songs} songs, {new} of them new, {changed} changed, {gone} gone; left out: {not_wave} not WAVE, {other_format} of another format, {broken} broken{hint}; not read: {folders} folders, {files} files"
@@ -362,7 +339,11 @@ impl<F: Folder, R: Log> Folder for TalliedFolder<'_, F, R> {
 
     fn look(&mut self, alloc: Global, path: &str) -> Result<Option<FileStamp>, FolderFault> {
         let looked = self.files.look(alloc, path);
-        self.note_look(path, &looked);
+        // One that can't be looked at isn't opened.
+        if matches!(looked, Err(FolderFault::Source)) {
+            self.note_file(path);
+            self.unlisted = None;
+        }
         looked
     }
 
@@ -395,7 +376,7 @@ impl<F: Folder, R: Log + Clock> ScanFolder for TalliedFolder<'_, F, R> {
         } else if let Some(before) = before {
             if let Some(untold) = self.limit.take(self.rt) {
                 self.tell_untold(job, untold);
-                self.tell(job, before.known.len() as u64, scanned.replaced);
+                self.tell(job, before.known.len() as u64, scanned);
             }
         }
     }

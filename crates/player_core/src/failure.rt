@@ -14,7 +14,7 @@ pub enum BrokenCause {
     Output,
 }
 
-/// The error that the player shows until a song is started or `clearerror` clears it.
+/// The error that the player shows until `clearerror` clears it, or the start of a song that doesn't follow one that is passed by.
 #[derive(Debug, Drop)]
 pub enum PlayFailure {
     /// The song at this URI could not be read. It stays when its entry leaves the queue.

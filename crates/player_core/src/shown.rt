@@ -14,8 +14,8 @@ use std::marker::Model;
 pub struct Shown {
     /// The position of the current song.
     pub current: Option<usize>,
-    /// The position and the id of the song that the end of the current one would start in play; none where it
-    /// would begin a new random round.
+    /// The position and the id of the song that the end of the current one would start in play, or as MPD has it follows in the order of
+    /// songs; none where it would begin a new random round.
     pub next: Option<(usize, u32)>,
 }
 

@@ -38,6 +38,7 @@ pub fn run<D: Disk, F: Folder>(
         b,
         folder,
         LibraryRules::NAMED,
+        None,
         reader,
         writer,
     )

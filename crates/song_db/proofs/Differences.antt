@@ -10,7 +10,7 @@ use Rattle.song_db.specs.declared.change.RowChange.{RowChange}
 use Rattle.song_db.specs.Difference.{begun, IsStep, IsScan, joined, ScansTellTheDifference, WithoutStampsAllIsRead}
 use Rattle.song_db.specs.Music.{Music, is_unchanged, music_of, song_at, uris_of}
 use Rattle.song_db.specs.Uri.{is_uri}
-use Rattle.song_db.specs.Pending.{times_pending, own_pending}
+use Rattle.song_db.specs.Pending.{AreEntriesTold, AreTold, Listed, times_pending, own_pending}
 use Rattle.song_db.specs.Place.{is_below}
 use Rattle.song_db.specs.Row.{Row}
 use Rattle.song_db.specs.Scan.{IsHonestAnswer, IsHonestRead, IsWholeAnswer, IsWholeRead}
@@ -74,29 +74,30 @@ no_answer music place before =
 -- what is told of the files of an order is told of its music
 honest_of : (music : Music) (place : Option (List ℕ)) (before next : Progress) (changes : List RowChange) → before.place ≡ place
     → music_of before.rules before.known music.files ≡ music → IsHonestAnswer music.files before next changes
-    → IsHonestRead music place before.pending next.pending before.droppable next.droppable changes
-honest_of music place before next changes same own read =
+    → AreTold music.files before.listed → IsHonestRead music place before.pending next.pending before.droppable next.droppable changes
+honest_of music place before next changes same own read told =
     subst (λ m. IsHonestRead m place before.pending next.pending before.droppable next.droppable changes) own
     (subst (λ p. IsHonestRead (music_of before.rules before.known music.files) p before.pending next.pending before.droppable
-    next.droppable changes) same read)
+    next.droppable changes) same (read told).1)
 
 whole_of : (music : Music) (place : Option (List ℕ)) (before next : Progress) (changes : List RowChange) → before.place ≡ place
     → music_of before.rules before.known music.files ≡ music → IsWholeAnswer music.files before next changes
-    → IsWholeRead music place before.pending next.pending before.droppable next.droppable changes
-whole_of music place before next changes same own read =
+    → AreTold music.files before.listed → IsWholeRead music place before.pending next.pending before.droppable next.droppable changes
+whole_of music place before next changes same own read told =
     subst (λ m. IsWholeRead m place before.pending next.pending before.droppable next.droppable changes) own
     (subst (λ p. IsWholeRead (music_of before.rules before.known music.files) p before.pending next.pending before.droppable
-    next.droppable changes) same read)
+    next.droppable changes) same (read told))
 
 one_answer : (music : Music) (place : Option (List ℕ)) (before next after : Progress) (changes more : List RowChange)
     → before.place ≡ place → music_of before.rules before.known music.files ≡ music
-    → IsCareful music place before.pending before.droppable → IsStep music.files before next changes → Sums music place next after more
+    → AreTold music.files before.listed → IsCareful music place before.pending before.droppable → IsStep music.files before next changes
+    → Sums music place next after more
     → Sums music place before after (changes ++ more)
-one_answer music place before next after changes more same own careful step rest =
+one_answer music place before next after changes more same own told careful step rest =
     let read : IsHonestRead music place before.pending next.pending before.droppable next.droppable changes
-    = honest_of music place before next changes same own step.read in
+    = honest_of music place before next changes same own step.read told in
     let whole : IsWholeRead music place before.pending next.pending before.droppable next.droppable changes
-    = whole_of music place before next changes same own step.whole in
+    = whole_of music place before next changes same own step.whole told in
     let puts : All (λ (row : Row). is_put music place row.uri ≡ true) (puts_of changes) = read.puts in
     let drops : All (λ uri. is_there music place uri ≡ false) (drops_of changes) = read.drops careful in
     record {
@@ -127,13 +128,14 @@ one_answer music place before next after changes more same own careful step rest
 
 all_answers : (music : Music) (place : Option (List ℕ)) (before after : Progress) (answers : List (List RowChange))
     → before.place ≡ place → music_of before.rules before.known music.files ≡ music
-    → IsCareful music place before.pending before.droppable → IsScan music.files before answers after
+    → AreTold music.files before.listed → IsCareful music place before.pending before.droppable → IsScan music.files before answers after
     → Sums music place before after (joined answers)
-all_answers music place before after [] same own careful scan = rw (← scan) (no_answer music place before)
-all_answers music place before after (changes ∷ answers) same own careful (next, step, rest) =
-    one_answer music place before next after changes (joined answers) same own careful step
+all_answers music place before after [] same own told careful scan = rw (← scan) (no_answer music place before)
+all_answers music place before after (changes ∷ answers) same own told careful (next, step, rest) =
+    one_answer music place before next after changes (joined answers) same own told careful step
     (all_answers music place next after answers (step.order.place ∙ same)
-    (rw (step.order.rules, step.order.known) own) ((honest_of music place before next changes same own step.read).careful careful) rest)
+    (rw (step.order.rules, step.order.known) own) (step.read told).0
+    ((honest_of music place before next changes same own step.read told).careful careful) rest)
 
 -- the job's place has each of its songs once
 one_time : (music : Music) (place : Option (List ℕ)) (uri : List ℕ) → is_there music place uri ≡ true
@@ -210,7 +212,7 @@ scans_tell files order answers end scan over =
     careful uri song among = omega (arith, one_time music order.uri uri song)
 
     sums : Sums music order.uri (begun order) end (joined answers)
-    sums = all_answers music order.uri (begun order) end answers refl refl careful scan
+    sums = all_answers music order.uri (begun order) end answers refl refl (All-nil (λ (l : Listed). AreEntriesTold files l.prefix l.entries)) careful scan
 
     left : (uri : List ℕ) → times_pending end.pending uri ≡ 0
     left uri = ap (λ ps. times_pending ps uri) over.pending

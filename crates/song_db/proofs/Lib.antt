@@ -4,6 +4,7 @@ pub mod Beginnings
 pub mod Below
 pub mod BelowOrder
 mod Counts
+mod DecodedEndings
 pub mod Differences
 mod DistinctTexts
 mod Exchanged
@@ -22,6 +23,7 @@ mod LastRow
 mod LetterKeys
 mod LetterSteps
 mod ListedSteps
+mod ListedTold
 mod Opened
 mod Ordered
 mod NewFolders
@@ -39,6 +41,7 @@ pub mod SameRows
 mod ShortTags
 pub mod SixTexts
 mod Slashes
+mod TagCounts
 mod Taken
 mod TextSteps
 mod LentOrder

@@ -1,7 +1,7 @@
 -- The milliseconds of all songs through a change.
 use Rattle.std.proofs.Common.{◌≡◌, ℕ, ◌+◌, ◌-◌, ◌*◌, ◌^◌, ◌<◌, ◌≤◌, Bool, true, false, ◌||◌, cond, List, [], ◌∷◌, ◌++◌}
 use Rattle.std.proofs.Common.{length, nat_lt, Some, None, refl, sym, ap, ◌∙◌, arith}
-use Rattle.std.specs.Prelude.{Option}
+use Rattle.std.specs.Prelude.{Option, sum_by}
 use Rattle.std.specs.List.{AllByRecursion}
 use Rattle.std.specs.declared.cmp.Ordering.{Ordering}
 use Rattle.std.specs.declared.cmp.Ordering.TheVariants.{Less, Equal, Greater}
@@ -26,33 +26,41 @@ use Rattle.song_db.proofs.Rising.{texts, apart_greater, apart_less}
 use Rattle.song_db.proofs.SameRows.{row_same}
 use Rattle.song_db.proofs.Turns.{none_behind}
 
-abbrev pub old_time : Option Row → ℕ
-old_time None = 0
-old_time (Some old) = milliseconds old
+-- what a row counts for, if there is one
+abbrev pub old_of : (Row → ℕ) → Option Row → ℕ
+old_of f None = 0
+old_of f (Some old) = f old
 
 -- what comes is counted, and what gives way isn't any more
-pub time_replaced : (key : List ℕ) (new rows : List Row) → IsRising row_uri rows
-    → total_of (replaced row_uri key new rows) + old_time (row_at rows key) ≡ total_of rows + total_of new
-time_replaced key new [] rising = omega arith
-time_replaced key new (x ∷ xs) rising = by_cases (texts key x.uri) refl (time_replaced key new xs (sorted_tail (by_text row_uri) x
+pub sum_replaced : (f : Row → ℕ) (key : List ℕ) (new rows : List Row) → IsRising row_uri rows
+    → sum_by f (replaced row_uri key new rows) + old_of f (row_at rows key) ≡ sum_by f rows + sum_by f new
+sum_replaced f key new [] rising = omega arith
+sum_replaced f key new (x ∷ xs) rising = by_cases (texts key x.uri) refl (sum_replaced f key new xs (sorted_tail (by_text row_uri) x
     xs rising))
   where
-    whole : total_of (x ∷ xs) ≡ milliseconds x + total_of xs
-    whole = sum_by-cons milliseconds x xs
+    whole : sum_by f (x ∷ xs) ≡ f x + sum_by f xs
+    whole = sum_by-cons f x xs
 
     by_cases : (o : Ordering) → texts key x.uri ≡ o
-        → total_of (replaced row_uri key new xs) + old_time (row_at xs key) ≡ total_of xs + total_of new
-        → total_of (match_ordering o (new ++ x ∷ xs) (new ++ xs) (x ∷ replaced row_uri key new xs)) + old_time (row_at (x ∷ xs)
-        key) ≡ total_of (x ∷ xs) + total_of new
+        → sum_by f (replaced row_uri key new xs) + old_of f (row_at xs key) ≡ sum_by f xs + sum_by f new
+        → sum_by f (match_ordering o (new ++ x ∷ xs) (new ++ xs) (x ∷ replaced row_uri key new xs)) + old_of f (row_at (x ∷ xs)
+        key) ≡ sum_by f (x ∷ xs) + sum_by f new
     by_cases Less h more =
         let none : row_at xs key ≡ None = none_behind key xs (behind_trans row_uri key x.uri xs h (sorted_head (by_text row_uri) x
         xs rising)) in
-        rw (apart_greater key x.uri h, none) (omega (arith, sum_by-append milliseconds new (x ∷ xs)))
+        rw (apart_greater key x.uri h, none) (omega (arith, sum_by-append f new (x ∷ xs)))
     by_cases Equal h more =
         let same : bytes_eq key x.uri ≡ true = sym (is_eq-slice_cmp key x.uri) ∙ ap is_eq h in
-        rw same (omega (arith, sum_by-append milliseconds new xs, whole))
+        rw same (omega (arith, sum_by-append f new xs, whole))
     by_cases Greater h more =
-        rw (apart_less x.uri key (flip key x.uri h)) (omega (arith, sum_by-cons milliseconds x (replaced row_uri key new xs), whole, more))
+        rw (apart_less x.uri key (flip key x.uri h)) (omega (arith, sum_by-cons f x (replaced row_uri key new xs), whole, more))
+
+abbrev pub old_time : Option Row → ℕ
+old_time old = old_of milliseconds old
+
+pub time_replaced : (key : List ℕ) (new rows : List Row) → IsRising row_uri rows
+    → total_of (replaced row_uri key new rows) + old_time (row_at rows key) ≡ total_of rows + total_of new
+time_replaced key new rows rising = sum_replaced milliseconds key new rows rising
 
 pub all_append : {X : Type 0} (P : X → Type 0) (xs ys : List X) → AllByRecursion P xs → AllByRecursion P ys → AllByRecursion P (xs ++ ys)
 all_append P [] ys front back = back

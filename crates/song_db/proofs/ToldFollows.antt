@@ -20,7 +20,7 @@ use Rattle.song_db.proofs.Indexed.{again_replaced, itself_replaced, none_left, n
 use Rattle.song_db.proofs.SameRows.{row_same}
 use Rattle.song_db.proofs.ToldOrder.{one_came, one_went}
 
-nothing_changes : (rows : List Row) (change : RowChange) → IsRising row_uri rows → Nothing ≡ effect_of rows change
+pub nothing_changes : (rows : List Row) (change : RowChange) → IsRising row_uri rows → Nothing ≡ effect_of rows change
     → after_change rows change ≡ rows
 nothing_changes rows (Drop uri) rising effect = by_cases (row_at rows uri) refl effect
   where
@@ -45,7 +45,7 @@ nothing_changes rows (Put row) rising effect = by_cases (row_at rows row.uri) re
     by_cases None none told = by_full (nat_lt (length rows) MAX_ROWS) told
     by_cases (Some old) found told = by_same old found (same_row old row) refl told
 
-left_out_changes : (rows : List Row) (change : RowChange) (left : Row) → LeftOut left ≡ effect_of rows change → after_change rows change ≡ rows
+pub left_out_changes : (rows : List Row) (change : RowChange) (left : Row) → LeftOut left ≡ effect_of rows change → after_change rows change ≡ rows
 left_out_changes rows (Drop uri) left effect = by_cases (row_at rows uri) effect
   where
     by_cases : (o : Option Row) → LeftOut left ≡ drop_effect o → replaced row_uri uri [] rows ≡ rows

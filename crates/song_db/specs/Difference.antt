@@ -16,6 +16,7 @@ begun order = record {
   rules = order.rules;
   known = order.known;
   pending = own_pending order.uri;
+  listed = [];
   droppable = uris_of order.known;
   is_over = false;
 }

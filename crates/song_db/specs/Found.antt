@@ -8,6 +8,8 @@ use Rattle.wave_pcm.specs.declared.refusal.WaveError.TheVariants.{NoMemory, NotW
 use Rattle.song_db.specs.declared.change.RowChange.{RowChange}
 use Rattle.song_db.specs.declared.change.RowChange.TheVariants.{Put}
 use Rattle.song_db.specs.Limits.{MAX_FOLDERS}
+use Rattle.song_files.specs.Folder.{File as MusicFile}
+use Rattle.song_files.specs.Listing.{IsStampAt}
 use Rattle.song_files.specs.declared.folder.FileStamp.{FileStamp}
 use Rattle.song_db.specs.declared.refusal.SongDbError.{SongDbError}
 use Rattle.song_db.specs.declared.rules.LibraryRules.{LibraryRules}
@@ -37,6 +39,12 @@ abbrev pub IsVisitIn : LibraryRules → Option (List ℕ) → Visit → Type 0
 IsVisitIn rules place (File uri) = (is_sought rules place uri ≡ true) × (is_uri uri ≡ true)
 IsVisitIn rules place (Folder uri) = is_in place uri ≡ true
 IsVisitIn rules place Nothing = Unit {0}
+
+-- what a listing told of the file that is read is told of it
+abbrev pub IsVisitTold : List MusicFile → Visit → Option FileStamp → Type 0
+IsVisitTold files (File uri) stamp = IsStampAt files uri stamp
+IsVisitTold files (Folder uri) stamp = Unit {0}
+IsVisitTold files Nothing stamp = Unit {0}
 
 -- what a visit reads
 abbrev pub visited : Visit → List Pending

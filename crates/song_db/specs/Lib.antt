@@ -8,6 +8,7 @@ pub mod Effect
 pub mod Endings
 pub mod Found
 pub mod Gain
+pub mod Kept
 pub mod Known
 pub mod Last
 pub mod Lent
@@ -27,6 +28,7 @@ pub mod Rules
 pub mod Same
 pub mod SameFolder
 pub mod Scan
+pub mod Tagged
 pub mod Told
 pub mod ToldWalk
 pub mod Uri

@@ -1,8 +1,11 @@
 -- What a scan has still to read.
 use Rattle.std.specs.Prelude.{ℕ, Bool, true, false, List, [], ◌∷◌, ◌++◌, Option, Some, None, Result, Ok, Err, map, count_by}
+use Rattle.std.specs.List.{All}
 use Rattle.std.specs.Str.{bytes_eq}
 use Rattle.std.specs.String.{string_bytes}
 use Rattle.std.specs.declared.vec.Vec.{Vec}
+use Rattle.song_files.specs.Folder.{File}
+use Rattle.song_files.specs.Listing.{IsStampAt}
 use Rattle.song_files.specs.declared.folder.FolderEntry.{FolderEntry}
 use Rattle.song_db.specs.declared.rules.LibraryRules.{LibraryRules}
 use Rattle.song_db.specs.Place.{is_below}
@@ -38,11 +41,26 @@ entry_pending prefix entry = path_pending (prefix ++ string_bytes entry.name) en
 abbrev pub entries_pending : List ℕ → List FolderEntry → List Pending
 entries_pending prefix entries = map (entry_pending prefix) entries
 
--- the walk of a scan: its rules, its folder or song, or none for the root, and what is still to be read of what it has entered
+-- what is left of a listing: what the paths of its entries begin with, and the entries
+pub record Listed : Type 0 where
+  pub prefix : List ℕ
+  pub entries : List FolderEntry
+
+-- the stamps that entries have are those of the files
+abbrev pub AreEntriesTold : List File → List ℕ → List FolderEntry → Type 0
+AreEntriesTold files prefix entries =
+    All (λ (entry : FolderEntry). IsStampAt files (prefix ++ string_bytes entry.name) entry.stamp) entries
+
+abbrev pub AreTold : List File → List Listed → Type 0
+AreTold files listed = All (λ (l : Listed). AreEntriesTold files l.prefix l.entries) listed
+
+-- the walk of a scan: its rules, its folder or song, or none for the root, what is still to be read of what it has entered, and what is
+-- left of the listings
 pub record Walked : Type 0 where
   pub rules : LibraryRules
   pub place : Option (List ℕ)
   pub pending : List Pending
+  pub listed : List Listed
 
 -- what a listing adds: its entries, or nothing
 abbrev pub listed_pending : {A E : Type 0} → List ℕ → Result (Option (Vec FolderEntry A)) E → List Pending

@@ -12,19 +12,20 @@ use Rattle.song_db.specs.declared.rules.LibraryRules.{LibraryRules}
 use Rattle.song_db.specs.Limits.{MAX_CHANGES}
 use Rattle.song_db.specs.Music.{Music, music_of, song_at, is_unchanged}
 use Rattle.song_db.specs.Name.{is_song}
-use Rattle.song_db.specs.Pending.{Pending, times_pending}
+use Rattle.song_db.specs.Pending.{AreTold, Listed, Pending, times_pending}
 use Rattle.song_db.specs.Place.{is_below}
 use Rattle.song_db.specs.Row.{Row, is_within_limits}
 use Rattle.song_db.specs.Uri.{is_uri}
 
--- the job and its folder or song, or none for the root; the rules and the known songs; what is still to be read; the known
--- URIs that may still be dropped; and whether it is over
+-- the job and its folder or song, or none for the root; the rules and the known songs; what is still to be read, and what is left of the
+-- listings; the known URIs that may still be dropped; and whether it is over
 pub record Progress : Type 0 where
   pub job : ℕ
   pub place : Option (List ℕ)
   pub rules : LibraryRules
   pub known : List KnownSong
   pub pending : List Pending
+  pub listed : List Listed
   pub droppable : List (List ℕ)
   pub is_over : Bool
 
@@ -129,15 +130,16 @@ pub record IsWholeRead (music : Music) (place : Option (List ℕ)) (before after
   pub gone : (uri : List ℕ) → is_there music place uri ≡ false → is_among known uri ≡ true
       → is_among (drops_of changes ++ left) uri ≡ true
 
+-- an answer, where what was listed before is so still; then it is so afterwards too
 abbrev pub IsHonestAnswer : List File → Progress → Progress → List RowChange → Type 0
 IsHonestAnswer files before after changes =
-    IsHonestRead (music_of before.rules before.known files) before.place before.pending after.pending before.droppable after.droppable
-    changes
+    AreTold files before.listed → AreTold files after.listed × IsHonestRead (music_of before.rules before.known files) before.place
+    before.pending after.pending before.droppable after.droppable changes
 
 abbrev pub IsWholeAnswer : List File → Progress → Progress → List RowChange → Type 0
 IsWholeAnswer files before after changes =
-    IsWholeRead (music_of before.rules before.known files) before.place before.pending after.pending before.droppable after.droppable
-    changes
+    AreTold files before.listed → IsWholeRead (music_of before.rules before.known files) before.place before.pending after.pending
+    before.droppable after.droppable changes
 
 -- the changes of an answer; none at the end
 abbrev pub changes_in : {A : Type 0} → Option (Vec RowChange A) → List RowChange

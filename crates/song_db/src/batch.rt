@@ -1,11 +1,10 @@
 // The changes of a batch, made one after the other among the rows.
 ghost use Rattle.std.specs.Prelude.{◌≡◌, ◌<◌, ◌≤◌, ◌++◌, ◌+◌, List, length, vec_len, vec_capacity, IfOk};
-ghost use Rattle.song_db.specs.Change.{IsDatabase, after_change, after_batch};
-ghost use Rattle.song_db.specs.Duration.{IsTimed};
+ghost use Rattle.song_db.specs.Change.{after_change, after_batch};
 ghost use Rattle.song_db.specs.Effect.{effect_of, effects_of};
+ghost use Rattle.song_db.specs.Kept.{AreKept, IsInPlace};
 ghost use Rattle.song_db.specs.Replaced.{IsRising};
 ghost use Rattle.song_db.specs.Row.{Row, row_uri};
-ghost use Rattle.song_db.specs.Told.{told_order};
 ghost use Rattle.song_db.specs.ValueIndex.{IsIndexed, coming};
 ghost use Rattle.song_db.specs.declared.change.RowChange.{RowChange};
 ghost use Rattle.song_db.specs.declared.change.RowChange.TheVariants.{Put, Drop};
@@ -15,9 +14,11 @@ use crate::effect::{Effect, total_after};
 use crate::limits::MAX_ROWS;
 use crate::row::SongRow;
 use crate::rows::place;
+use crate::tag_counts::follow_counts;
 use crate::told_rows::{Prepared, follow_told};
 use crate::uri::Uri;
 use crate::value_index::ValueIndex;
+use song_files::TAG_COUNT;
 use std::alloc::{AllocError, Global};
 use std::mem;
 
@@ -76,74 +77,36 @@ fn make_change(rows: &mut Vec<SongRow>, change: RowChange) -> Effect
     }
 }
 
-// Makes a change, and keeps the milliseconds of all songs, the order in which they are told, and their index. The place where the song
-// is told is looked for at a place first, and becomes the one where the next one is.
+// Makes a change that comes with a copy of its row, and keeps what is kept beside the rows. The place where the song is told is looked for
+// at a place first, and becomes the one where the next one is.
 fn make_timed(
     alloc: Global,
     rows: &mut Vec<SongRow>,
     told: &mut Vec<SongRow>,
     total: &mut u128,
+    counts: &mut [u32; TAG_COUNT],
     index: &mut Option<ValueIndex>,
-    change: RowChange,
-    copy: Option<SongRow>,
+    prepared: Prepared,
     near: &mut usize,
 ) -> Effect
-    requires database { IsDatabase rows.old.items }
-    requires told { told.old.items ≡ told_order rows.old.items }
-    requires timed { IsTimed rows.old.items total.old }
-    requires indexed { IsIndexed rows.old.items index.old }
+    requires kept { AreKept rows.old.items told.old.items total.old counts.old index.old }
     requires room { vec_len rows.old < vec_capacity rows.old }
     requires told_room { vec_len told.old < vec_capacity told.old }
-    requires copied { copy ≡ coming change }
-    ensures database { IsDatabase rows.new.items }
-    ensures told { told.new.items ≡ told_order rows.new.items }
-    ensures timed { IsTimed rows.new.items total.new }
-    ensures indexed { IsIndexed rows.new.items index.new }
-    ensures effect { result ≡ effect_of rows.old.items change }
-    ensures rows { rows.new.items ≡ after_change rows.old.items change }
-    ensures len { vec_len rows.new ≤ vec_len rows.old + 1 }
-    ensures capacity { vec_capacity rows.new ≡ vec_capacity rows.old }
-    ensures told_len { vec_len told.new ≤ vec_len told.old + 1 }
-    ensures told_capacity { vec_capacity told.new ≡ vec_capacity told.old }
+    ensures kept { AreKept rows.new.items told.new.items total.new counts.new index.new }
+    ensures effect { result ≡ effect_of rows.old.items prepared }
+    ensures rows { rows.new.items ≡ after_change rows.old.items prepared }
+    ensures place { IsInPlace rows.old rows.new }
+    ensures told_place { IsInPlace told.old told.new }
 {
+    let (change, copy) = prepared.into_parts();
     let gain = change.gain();
     let row = change.coming();
     let effect = make_change(rows, change);
     *total = total_after(*total, gain, &effect);
+    follow_counts(counts, copy.as_ref(), &effect);
     follow_told(told, copy, &effect, near);
     follow(alloc, index, row, &effect);
     effect
-}
-
-// Makes a change that comes with a copy of its row.
-fn make_prepared(
-    alloc: Global,
-    rows: &mut Vec<SongRow>,
-    told: &mut Vec<SongRow>,
-    total: &mut u128,
-    index: &mut Option<ValueIndex>,
-    change: Prepared,
-    near: &mut usize,
-) -> Effect
-    requires database { IsDatabase rows.old.items }
-    requires told { told.old.items ≡ told_order rows.old.items }
-    requires timed { IsTimed rows.old.items total.old }
-    requires indexed { IsIndexed rows.old.items index.old }
-    requires room { vec_len rows.old < vec_capacity rows.old }
-    requires told_room { vec_len told.old < vec_capacity told.old }
-    ensures database { IsDatabase rows.new.items }
-    ensures told { told.new.items ≡ told_order rows.new.items }
-    ensures timed { IsTimed rows.new.items total.new }
-    ensures indexed { IsIndexed rows.new.items index.new }
-    ensures effect { result ≡ effect_of rows.old.items change }
-    ensures rows { rows.new.items ≡ after_change rows.old.items change }
-    ensures len { vec_len rows.new ≤ vec_len rows.old + 1 }
-    ensures capacity { vec_capacity rows.new ≡ vec_capacity rows.old }
-    ensures told_len { vec_len told.new ≤ vec_len told.old + 1 }
-    ensures told_capacity { vec_capacity told.new ≡ vec_capacity told.old }
-{
-    let (change, copy) = change.into_parts();
-    make_timed(alloc, rows, told, total, index, change, copy, near)
 }
 
 // Follows a change that has been made. Where memory is refused, there is no index any more.
@@ -173,27 +136,22 @@ pub(crate) fn make_changes(
     rows: &mut Vec<SongRow>,
     told: &mut Vec<SongRow>,
     total: &mut u128,
+    counts: &mut [u32; TAG_COUNT],
     index: &mut Option<ValueIndex>,
     changes: Vec<Prepared>,
     effects: &mut Vec<Effect>,
 )
-    requires database { IsDatabase rows.old.items }
-    requires told { told.old.items ≡ told_order rows.old.items }
-    requires timed { IsTimed rows.old.items total.old }
-    requires indexed { IsIndexed rows.old.items index.old }
-    requires told_room { vec_len told.old + length changes.items ≤ vec_capacity told.old }
+    requires kept { AreKept rows.old.items told.old.items total.old counts.old index.old }
     requires room { vec_len rows.old + length changes.items ≤ vec_capacity rows.old }
-    requires room_told { vec_len effects.old + length changes.items ≤ vec_capacity effects.old }
-    ensures database { IsDatabase rows.new.items }
-    ensures told { told.new.items ≡ told_order rows.new.items }
-    ensures timed { IsTimed rows.new.items total.new }
-    ensures indexed { IsIndexed rows.new.items index.new }
+    requires told_room { vec_len told.old + length changes.items ≤ vec_capacity told.old }
+    requires effects_room { vec_len effects.old + length changes.items ≤ vec_capacity effects.old }
+    ensures kept { AreKept rows.new.items told.new.items total.new counts.new index.new }
     ensures rows { rows.new.items ≡ after_batch rows.old.items changes.items }
     ensures effects { effects.new.items ≡ effects.old.items ++ effects_of rows.old.items changes.items }
 {
     let mut near = told.len();
     for change in changes {
-        let effect = make_prepared(alloc, rows, told, total, index, change, &mut near);
+        let effect = make_timed(alloc, rows, told, total, counts, index, change, &mut near);
         effects.push_reserved(effect);
     }
 }

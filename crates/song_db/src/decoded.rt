@@ -3,48 +3,32 @@ ghost use Rattle.std.specs.Prelude.{◌≡◌, ◌-◌, drop, length, map};
 ghost use Rattle.std.specs.Char.{to_ascii_lowercase};
 ghost use Rattle.std.specs.List.{list_any};
 ghost use Rattle.std.specs.Str.{bytes_eq};
-ghost use Rattle.song_db.specs.Endings.{coded_endings, decoded_endings, has_ending, lossless_endings};
+ghost use Rattle.song_db.specs.Endings.{decoded_endings, has_ending};
+
+// Their endings: first those of files whose sound is, as a rule, plain or packed without loss, then those of sound that is coded with
+// loss, and of what may have either.
+const ENDINGS: &[&str] = &[
+    ".aif", ".aifc", ".aiff", ".ape", ".au", ".caf", ".dff", ".dsf", ".tak", ".tta", ".wv", ".aac",
+    ".asf", ".m4a", ".m4b", ".mka", ".mp2", ".mp3", ".mp4", ".mpc", ".oga", ".ogg", ".opus",
+    ".spx", ".wma",
+];
 
 /// Whether a path ends as the files that a decoder beside the daemon reads: in one of their endings, in any ASCII case.
 pub fn is_decoded(path: &[u8]) -> bool
     ensures { result ≡ list_any (has_ending path.now) decoded_endings }
 {
-    is_lossless(path) || is_coded(path)
+    for ending in decoded_endings() {
+        if ends_in(path, ending.as_bytes()) {
+            return true;
+        }
+    }
+    false
 }
 
-fn is_lossless(path: &[u8]) -> bool
-    ensures { result ≡ list_any (has_ending path.now) lossless_endings }
+fn decoded_endings() -> &'static [&'static str]
+    ensures { map (λ ending. ending.now) result.now ≡ decoded_endings }
 {
-    ends_in(path, b".aif")
-        || ends_in(path, b".aifc")
-        || ends_in(path, b".aiff")
-        || ends_in(path, b".ape")
-        || ends_in(path, b".au")
-        || ends_in(path, b".caf")
-        || ends_in(path, b".dff")
-        || ends_in(path, b".dsf")
-        || ends_in(path, b".tak")
-        || ends_in(path, b".tta")
-        || ends_in(path, b".wv")
-}
-
-fn is_coded(path: &[u8]) -> bool
-    ensures { result ≡ list_any (has_ending path.now) coded_endings }
-{
-    ends_in(path, b".aac")
-        || ends_in(path, b".asf")
-        || ends_in(path, b".m4a")
-        || ends_in(path, b".m4b")
-        || ends_in(path, b".mka")
-        || ends_in(path, b".mp2")
-        || ends_in(path, b".mp3")
-        || ends_in(path, b".mp4")
-        || ends_in(path, b".mpc")
-        || ends_in(path, b".oga")
-        || ends_in(path, b".ogg")
-        || ends_in(path, b".opus")
-        || ends_in(path, b".spx")
-        || ends_in(path, b".wma")
+    ENDINGS
 }
 
 // Whether a path has this ending, in any ASCII case of either.

@@ -21,6 +21,7 @@ mod rows;
 pub mod rules;
 pub mod scan;
 pub mod song_db;
+mod tag_counts;
 pub mod texts;
 mod told;
 mod told_near;

@@ -24,8 +24,8 @@ use std::marker::Model;
 ///
 /// A song is a file whose name ends as the rules of the order say (in any ASCII case) at most 32 folders deep, counted from
 /// the root of the music, whose path has the form of a URI and whose head `song_head::read_song` reads. It is a `Put`,
-/// changed or not; where the rules keep stamps and it is known with the stamp that its file has, the file isn't opened and
-/// its row is kept. Where its file can't be looked at, opened or read, nobody knows, and its row is kept; where a folder
+/// changed or not; where the rules keep stamps and it is known with the stamp that its file had as it was listed, the file isn't
+/// opened and its row is kept. Where its file can't be looked at, opened or read, nobody knows, and its row is kept; where a folder
 /// can't be listed, the rows below it are. The folders are walked by the bytes of names, files and folders mixed. After
 /// the walk each known URI that was neither read nor kept is a `Drop`, rising.
 ///
@@ -50,6 +50,7 @@ impl Model for Scan {
       rules = s.reader.walk.rules;
       known = s.reader.droppable.known;
       pending = still_pending s.reader.is_begun s.reader.walk;
+      listed = s.reader.walk.listed;
       droppable = s.reader.droppable.left;
       is_over = s.is_over;
     } };

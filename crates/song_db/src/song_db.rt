@@ -12,6 +12,7 @@ ghost use Rattle.song_db.specs.Query.{number_at, rows_under, is_folder, folders_
 ghost use Rattle.song_db.specs.Refusal.{AnswersExactlyIfThere, AnswersIfThere};
 ghost use Rattle.song_db.specs.Replaced.{IsRising};
 ghost use Rattle.song_db.specs.Row.{Row, row_uri, row_at};
+ghost use Rattle.song_db.specs.Tagged.{count_tagged};
 ghost use Rattle.song_db.specs.Told.{told_order, told_under};
 ghost use Rattle.song_db.specs.ToldWalk.{told_walk};
 ghost use Rattle.song_db.specs.ValueIndex.{IsIndexed};
@@ -34,6 +35,7 @@ use crate::row::SongRow;
 use crate::row_uri::RowUri;
 use crate::rows::{clone_rows, ends_before, position};
 use crate::rules::LibraryRules;
+use crate::tag_counts::exchange;
 use crate::texts::Texts;
 use crate::told_rows::{in_told_order, prepare_all, put_told, told_below};
 use crate::told_walk::ToldWalk;
@@ -42,7 +44,7 @@ use crate::value_index::ValueIndex;
 use crate::valued::{count_with, rows_with};
 use crate::values::{ValueCounts, folders_of, songs_of, value_counts, values_of};
 use crate::walk::Walk;
-use song_files::Tag;
+use song_files::{TAG_COUNT, Tag};
 use std::alloc::Global;
 use std::fmt;
 use std::marker::Model;
@@ -55,6 +57,8 @@ pub struct SongDb {
     told: Vec<SongRow>,
     // The milliseconds of all of them.
     total: u128,
+    // How many of them have a text of each tag, by the tags' numbers.
+    counts: [u32; TAG_COUNT],
     // The rows by the values of their tags. Where memory was refused, there is none, and the rows themselves are looked
     // at, until a batch finds memory for it.
     index: Option<ValueIndex>,
@@ -73,18 +77,13 @@ impl fmt::Debug for SongDb {
 impl Model for SongDb {
     ghost use Rattle.std.specs.Prelude.{List};
     ghost use Rattle.song_db.specs.Row.{Row};
-    ghost use Rattle.song_db.specs.Change.{IsDatabase};
-    ghost use Rattle.song_db.specs.Duration.{IsTimed};
-    ghost use Rattle.song_db.specs.Told.{told_order};
-    ghost use Rattle.song_db.specs.ValueIndex.{IsIndexed};
-    ghost use Rattle.std.specs.Prelude.{◌≡◌};
+    ghost use Rattle.song_db.specs.Kept.{AreKept};
 
     ghost Value = { List Row };
 
     ghost view = { λ d. d.rows.items };
 
-    ghost invariant = { λ d. IsDatabase d.rows.items × IsTimed d.rows.items d.total × IsIndexed d.rows.items d.index
-        × (d.told.items ≡ told_order d.rows.items) };
+    ghost invariant = { λ d. AreKept d.rows.items d.told.items d.total d.counts d.index };
 }
 
 impl SongDb {
@@ -96,6 +95,7 @@ impl SongDb {
             rows: Vec::new(alloc),
             told: Vec::new(alloc),
             total: 0,
+            counts: [0; TAG_COUNT],
             index: Some(ValueIndex::new(alloc)),
         }
     }
@@ -153,6 +153,7 @@ impl SongDb {
             &mut self.rows,
             &mut self.told,
             &mut self.total,
+            &mut self.counts,
             &mut self.index,
             changes,
             &mut effects,
@@ -285,6 +286,7 @@ impl SongDb {
         let copy = row.try_clone()?;
         self.index = with_last(alloc, self.index.take(), &row);
         self.total += row.milliseconds();
+        exchange(&mut self.counts, None, Some(&row));
         let last = self.told.len();
         put_told(&mut self.told, copy, last);
         self.rows.push_reserved(row);
@@ -303,6 +305,7 @@ impl SongDb {
             rows,
             told,
             total: self.total,
+            counts: self.counts,
             index: None,
         })
     }
@@ -402,6 +405,14 @@ impl SongDb {
         ensures { result ≡ count_by (has_value tag value.now) self.now }
     {
         count_with(&self.rows, &self.index, tag, value)
+    }
+
+    /// How many songs have a text of a tag. They are counted already.
+    pub fn count_tagged(&self, tag: Tag) -> usize
+        ensures count { result ≡ count_tagged tag self.now }
+        ensures few { result ≤ length self.now }
+    {
+        self.counts[usize::from(tag.number())] as usize
     }
 
     /// How many artists and albums the songs have, each counted once. They are counted already. Refused by `NoMemory`.

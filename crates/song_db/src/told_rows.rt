@@ -1,12 +1,12 @@
 // The songs in the order in which they are told.
-ghost use Rattle.std.specs.Prelude.{◌≡◌, ◌+◌, ◌-◌, ◌<◌, ◌≤◌, ◌++◌, ◌∷◌, [], List, length, map, take, drop, filter, vec_len, vec_capacity, IfOk, IfErr, MatchOption, OnOk, true, false};
+ghost use Rattle.std.specs.Prelude.{◌≡◌, ◌+◌, ◌-◌, ◌<◌, ◌≤◌, ◌++◌, ◌∷◌, [], List, length, map, take, drop, filter, vec_len, vec_capacity, IfOk, MatchOption, OnOk, true, false};
 ghost use Rattle.std.specs.List.Sorted.{IsPartitionPoint};
 ghost use Rattle.std.specs.Cmp.Lexicographic.{slice_cmp};
 ghost use Rattle.std.specs.Ordering.{nat_cmp, is_lt};
 ghost use Rattle.song_db.specs.Change.{after_change};
 ghost use Rattle.song_db.specs.Effect.{effect_of};
 ghost use Rattle.song_db.specs.Place.{is_below};
-ghost use Rattle.song_db.specs.Replaced.{IsRising, IsBefore, IsNotBefore, IsPlaceOf, IsPlaceFor, replaced};
+ghost use Rattle.song_db.specs.Replaced.{IsRising, IsBefore, IsNotBefore, replaced};
 ghost use Rattle.song_db.specs.Row.{Row, row_uri};
 ghost use Rattle.song_db.specs.Told.{told_key, told_order, folder_key, folder_end};
 ghost use Rattle.song_db.specs.Lent.{lent_key, told_from};
@@ -16,23 +16,10 @@ ghost use Rattle.song_db.specs.declared.change.RowChange.{RowChange};
 use crate::change::RowChange;
 use crate::effect::Effect;
 use crate::row::SongRow;
-use crate::told::{compare_told, is_before_folder};
-use crate::told_near::told_point;
+use crate::told::is_before_folder;
+use crate::told_near::told_place;
 use std::alloc::{AllocError, Global};
 use std::marker::Model;
-
-// The place of a song, or the place that it would have, looked for at a place first.
-fn told_place(told: &[SongRow], row: &SongRow, near: usize) -> Result<usize, usize>
-    requires { IsRising told_key told.now }
-    ensures there { IfOk result (IsPlaceOf told_key (told_key row.now) told.now) }
-    ensures absent { IfErr result (IsPlaceFor told_key (told_key row.now) told.now) }
-{
-    let at = told_point(told, row, near);
-    if at < told.len() && compare_told(&told[at], row).is_eq() {
-        return Ok(at);
-    }
-    Err(at)
-}
 
 // Puts a song at its place, which is looked for at a place first, in the place of the one that has its URI; and says where.
 pub(crate) fn put_told(told: &mut Vec<SongRow>, row: SongRow, near: usize) -> usize
@@ -196,7 +183,7 @@ fn folder_point(told: &[SongRow], folder: &str, own: bool) -> usize
     )
 }
 
-// Songs in the order in which they are told: one after the other is put at its place.
+// Songs in the order in which they are told: one after the other is put at its place, which is looked for behind the one before it first.
 pub(crate) fn in_told_order<'a>(
     alloc: Global,
     rows: &[&'a SongRow],
@@ -205,49 +192,33 @@ pub(crate) fn in_told_order<'a>(
     ensures few { IfOk result (λ told. length told.items ≤ length rows.now) }
 {
     let mut told = Vec::with_capacity(alloc, rows.len())?;
+    let mut near = 0;
     for row in rows {
-        put_lent(&mut told, *row)?;
+        near = put_lent(&mut told, *row, near)?;
     }
     Ok(told)
 }
 
-// Puts a song at its place, in the place of the one that has its URI.
-fn put_lent<'a>(told: &mut Vec<&'a SongRow>, row: &'a SongRow) -> Result<(), AllocError>
+// Puts a song at its place, which is looked for at a place first, in the place of the one that has its URI; and says where.
+fn put_lent<'a>(
+    told: &mut Vec<&'a SongRow>,
+    row: &'a SongRow,
+    near: usize,
+) -> Result<usize, AllocError>
     requires { IsRising lent_key told.old.items }
     ensures rows { OnOk result (map (λ row. row.now) told.new.items ≡ replaced told_key (told_key row.entry.now) (row.entry.now ∷ [])
         (map (λ row. row.now) told.old.items)) }
     ensures rising { OnOk result (IsRising lent_key told.new.items) }
     ensures few { OnOk result (length told.new.items ≤ length told.old.items + 1) }
 {
-    match lent_place(told, row) {
-        Ok(at) => told[at] = row,
-        Err(at) => told.insert(at, row)?,
+    match told_place(told, row, near) {
+        Ok(at) => {
+            told[at] = row;
+            Ok(at)
+        }
+        Err(at) => {
+            told.insert(at, row)?;
+            Ok(at)
+        }
     }
-    Ok(())
-}
-
-// The place of a song among these, or the place that it would have.
-fn lent_place(told: &[&SongRow], row: &SongRow) -> Result<usize, usize>
-    requires { IsRising lent_key told.now }
-    ensures there { IfOk result (IsPlaceOf lent_key (told_key row.now) told.now) }
-    ensures absent { IfErr result (IsPlaceFor lent_key (told_key row.now) told.now) }
-{
-    let at = lent_point(told, row);
-    if at < told.len() && compare_told(told[at], row).is_eq() {
-        return Ok(at);
-    }
-    Err(at)
-}
-
-// The place of the first of these songs that isn't told before a song.
-fn lent_point(told: &[&SongRow], row: &SongRow) -> usize
-    requires { IsRising lent_key told.now }
-    ensures bound { result ≤ length told.now }
-    ensures split { IsPartitionPoint (IsBefore lent_key (told_key row.now)) (IsNotBefore lent_key (told_key row.now)) told.now result }
-{
-    told.partition_point(
-        |other: &&SongRow| -> bool
-            ensures { result ≡ is_lt (slice_cmp nat_cmp (told_key other.now.now) (told_key row.entry.now)) }
-        { compare_told(*other, row).is_lt() },
-    )
 }

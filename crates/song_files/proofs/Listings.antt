@@ -14,10 +14,11 @@ use Rattle.std.proofs.lemmas.List.Elements.{All-head, All-push}
 use Rattle.std.proofs.lemmas.List.Folds.{list_any-append, list_any_at}
 use Rattle.std.proofs.lemmas.List.Sums.{sum_by_push, sum_by-cons}
 use Rattle.std.proofs.lemmas.Slice.Eq.{bytes_eq-Decides}
-use Rattle.song_files.specs.Added.{IsAdded}
-use Rattle.song_files.specs.Folder.{File, bytes_at}
+use Rattle.song_files.specs.Added.{IsAdded, IsStamped, told_of}
+use Rattle.song_files.specs.Folder.{File, bytes_at, stamp_at}
 use Rattle.song_files.specs.Listing.{behind_folder, behind, has_slash, is_name, first_part, same_kind, is_entry, begins_with, has_first}
-use Rattle.song_files.specs.Listing.{is_over, IsListing, AreApart}
+use Rattle.song_files.specs.Listing.{is_over, path_in, IsListing, IsStampAt, AreApart}
+use Rattle.song_files.specs.declared.folder.FileStamp.{FileStamp}
 use Rattle.song_files.specs.declared.folder.FolderEntry.{FolderEntry}
 
 -- what is left of a path behind its folder, without the slash
@@ -303,3 +304,41 @@ added_behind old new entry path name kind more items i is name_is kind_is first 
     not_none : (name first : List ℕ) → name ≡ first → false ≡ nat_eq (length name) 0 → bytes_eq first [] ≡ false
     not_none name [] is some = absurd (let k : false ≡ true = some ∙ ap (λ l. nat_eq (length l) 0) is in cc)
     not_none name (b ∷ first) is some = refl
+
+-- ---- what is told of the file under a name
+
+first_whole : (path : List ℕ) → has_slash path ≡ false → first_part path ≡ path
+first_whole [] none = refl
+first_whole (b ∷ path) none = by_cases (nat_eq b 47) refl none (first_whole path)
+  where
+    one_more : (n : ℕ) → 1 + n ≡ suc n
+    one_more n = omega arith
+
+    by_cases : (c : Bool) → nat_eq b 47 ≡ c → (c || has_slash path) ≡ false → (has_slash path ≡ false → first_part path ≡ path)
+        → take (cond (not c) (1 + prefix_len (λ x. not (x == 47)) path) 0) (b ∷ path) ≡ b ∷ path
+    by_cases true slash none rest = absurd (cc)
+    by_cases false other none rest =
+        rw (one_more (prefix_len (λ x. not (x == 47)) path)) (ap (λ l. b ∷ l) (rest none))
+
+path_back : (folder path rest : List ℕ) → behind folder path ≡ Some rest → has_slash rest ≡ false → path_in folder (first_part rest) ≡ path
+path_back [] path rest below plain =
+    let same : path ≡ rest = cc in
+    first_whole rest plain ∙ sym same
+path_back (f ∷ folder) path rest below plain =
+    ap (λ name. (f ∷ folder) ++ 47 ∷ name) (first_whole rest plain) ∙ sym (behind_splits (f ∷ folder) path rest below)
+
+pub told_there : (files : List File) (folder path rest : List ℕ) (told : Option FileStamp) → behind folder path ≡ Some rest
+    → told ≡ stamp_at files path → IsStampAt files (path_in folder (first_part rest)) (told_of (has_slash rest) told)
+told_there files folder path rest told below is = by_cases (has_slash rest) refl
+  where
+    by_cases : (b : Bool) → has_slash rest ≡ b → IsStampAt files (path_in folder (first_part rest)) (told_of b told)
+    by_cases true slash = λ known here. absurd (cc)
+    by_cases false plain = λ known here. ap (stamp_at files) (path_back folder path rest below plain) ∙ sym is ∙ here
+
+pub stamps_pushed : (old new : List FolderEntry) (entry : FolderEntry) (path name : List ℕ) (kind more : Bool) (told : Option FileStamp)
+    → new ≡ old ++ entry ∷ [] → string_bytes entry.name ≡ name → name ≡ first_part path → entry.stamp ≡ told_of kind told → kind ≡ more
+    → IsStamped old new (first_part path) more told
+stamps_pushed old new entry path name kind more told is named first stamp mores = λ files folder one all.
+    let own : IsStampAt files (path_in folder (string_bytes entry.name)) entry.stamp
+    = rw (named ∙ first, stamp ∙ ap (λ k. told_of k told) mores) one in
+    rw is (All-push (λ (e : FolderEntry). IsStampAt files (path_in folder (string_bytes e.name)) e.stamp) old entry all own)

@@ -1,11 +1,12 @@
 -- What an honest folder lists.
-use Rattle.std.specs.Prelude.{◌≡◌, ◌≢◌, ℕ, ◌≤◌, Bool, true, false, not, ◌&&◌, ◌==◌, List, [], ◌∷◌, Option, Some, None, is_some}
+use Rattle.std.specs.Prelude.{◌≡◌, ◌≢◌, ℕ, ◌≤◌, Bool, true, false, not, ◌&&◌, ◌==◌, List, [], ◌∷◌, ◌++◌, Option, Some, None, is_some}
 use Rattle.std.specs.Prelude.{count_by, if◌then◌else◌}
 use Rattle.std.specs.List.{All, list_any, before_first}
 use Rattle.std.specs.Str.{bytes_eq}
 use Rattle.std.specs.String.{string_bytes}
 use Rattle.std.specs.declared.vec.Vec.{Vec}
-use Rattle.song_files.specs.Folder.{File, bytes_at}
+use Rattle.song_files.specs.Folder.{File, bytes_at, stamp_at}
+use Rattle.song_files.specs.declared.folder.FileStamp.{FileStamp}
 use Rattle.song_files.specs.declared.folder.FolderEntry.{FolderEntry}
 
 -- what a path has behind a folder and a slash
@@ -60,6 +61,20 @@ pub record IsListing (files : List File) (folder : List ℕ) (entries : List Fol
 abbrev pub entries_of : {A : Type 0} → Option (Vec FolderEntry A) → List FolderEntry
 entries_of None = []
 entries_of (Some entries) = entries.items
+
+-- the path of what stands in a folder under a name
+abbrev pub path_in : List ℕ → List ℕ → List ℕ
+path_in [] name = name
+path_in (f ∷ folder) name = (f ∷ folder) ++ 47 ∷ name
+
+-- a stamp that was told of the file at a path is what is told of it
+abbrev pub IsStampAt : List File → List ℕ → Option FileStamp → Type 0
+IsStampAt files path told = (stamp : FileStamp) → told ≡ Some stamp → stamp_at files path ≡ Some stamp
+
+-- the entries have no other stamps
+abbrev pub AreStamped : List File → List ℕ → List FolderEntry → Type 0
+AreStamped files folder entries =
+    All (λ (entry : FolderEntry). IsStampAt files (path_in folder (string_bytes entry.name)) entry.stamp) entries
 
 -- files are apart where none stands at the path of a folder
 abbrev pub is_over : List ℕ → File → Bool

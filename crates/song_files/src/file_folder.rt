@@ -4,7 +4,7 @@ ghost use Rattle.std.specs.Prelude.{[]};
 use crate::file_source::FileSource;
 use crate::known_files::KnownFiles;
 use crate::{FileStamp, Folder, FolderEntry, FolderFault};
-use std::alloc::Global;
+use std::alloc::{AllocError, Global};
 use std::fs::{self, Metadata};
 use std::io::{self, ErrorKind};
 use std::os::unix::fs::MetadataExt;
@@ -201,42 +201,77 @@ fn entries_of(
     let mut entries = Vec::new(alloc);
     for found in fs::read_dir(rt, place)? {
         let found = found?;
-        let kinds = match kinds_of(rt, found.path()) {
-            Err(error) if is_absent(&error) => kinds_of_removed(rt, place, folder)?,
-            kinds => kinds?,
+        let kind = match kind_of(rt, found.path()) {
+            Err(error) if is_absent(&error) => kind_of_removed(rt, place, folder)?,
+            kind => kind?,
         };
-        for is_folder in kinds {
-            let name = String::from_str(alloc, found.file_name())?;
-            entries.push(FolderEntry {
-                name,
-                is_folder: *is_folder,
-            })?;
-        }
+        push_entries(alloc, &mut entries, found.file_name(), kind)?;
     }
     Ok(entries)
 }
 
-// Whether what stands there is a folder; nothing for what is neither a folder nor a file. A link that leads nowhere may have led to either:
-// so it is looked for as both, which is a fault, and what is known of it is kept. So is what came, or came back, between both looks.
-fn kinds_of(rt: &HostRuntime, place: Path<'_>) -> io::Result<&'static [bool]> {
+// What stands under a name that was read.
+enum Kind {
+    Folder,
+    File(Option<FileStamp>),
+    // Neither a folder nor a file, or nothing any more.
+    Neither,
+    // A link that leads nowhere.
+    Unknown,
+}
+
+// Enters a name. A link that leads nowhere may have led to a folder or to a file: so it is looked for as both, which is a fault, and what is
+// known of it is kept.
+fn push_entries(
+    alloc: Global,
+    entries: &mut Vec<FolderEntry>,
+    name: &str,
+    kind: Kind,
+) -> io::Result<()> {
+    match kind {
+        Kind::Folder => push_entry(alloc, entries, name, true, None)?,
+        Kind::File(stamp) => push_entry(alloc, entries, name, false, stamp)?,
+        Kind::Neither => {}
+        Kind::Unknown => {
+            push_entry(alloc, entries, name, true, None)?;
+            push_entry(alloc, entries, name, false, None)?;
+        }
+    }
+    Ok(())
+}
+
+fn push_entry(
+    alloc: Global,
+    entries: &mut Vec<FolderEntry>,
+    name: &str,
+    is_folder: bool,
+    stamp: Option<FileStamp>,
+) -> Result<(), AllocError> {
+    let name = String::from_str(alloc, name)?;
+    entries.push(FolderEntry {
+        name,
+        is_folder,
+        stamp,
+    })?;
+    Ok(())
+}
+
+// What stands there. What came, or came back, between both looks counts as a link that leads nowhere.
+fn kind_of(rt: &HostRuntime, place: Path<'_>) -> io::Result<Kind> {
     match fs::metadata(rt, place) {
-        Ok(found) if found.is_dir() => Ok(&[true]),
-        Ok(found) if found.is_file() => Ok(&[false]),
-        Ok(_) => Ok(&[]),
-        Err(_) if is_there(rt, place)? => Ok(&[true, false]),
+        Ok(found) if found.is_dir() => Ok(Kind::Folder),
+        Ok(found) if found.is_file() => Ok(Kind::File(stamp_of(&found))),
+        Ok(_) => Ok(Kind::Neither),
+        Err(_) if is_there(rt, place)? => Ok(Kind::Unknown),
         Err(error) => Err(error),
     }
 }
 
 // Nothing for a name that vanished since it was read, if the folder that was listed still stands at its place: it was removed. Else that
 // isn't known of any name.
-fn kinds_of_removed(
-    rt: &HostRuntime,
-    place: &str,
-    folder: &Metadata,
-) -> io::Result<&'static [bool]> {
+fn kind_of_removed(rt: &HostRuntime, place: &str, folder: &Metadata) -> io::Result<Kind> {
     match fs::metadata(rt, place) {
-        Ok(found) if is_same(&found, folder) => Ok(&[]),
+        Ok(found) if is_same(&found, folder) => Ok(Kind::Neither),
         Err(error) if !is_absent(&error) => Err(error),
         _ => Err(io::Error::other("the folder went away while it was listed")),
     }

@@ -1,7 +1,7 @@
 // What a folder lists and opens.
 ghost use Rattle.std.specs.Prelude.{◌≡◌, List, None, Some, IfOk, IfSome, IsOkUnless, MatchOption};
 ghost use Rattle.song_files.specs.Folder.{File, bytes_at, stamp_at};
-ghost use Rattle.song_files.specs.Listing.{IsListing, IsNoFile, entries_of};
+ghost use Rattle.song_files.specs.Listing.{AreStamped, IsListing, IsNoFile, entries_of};
 ghost use Rattle.song_files.specs.declared.folder.FolderFault.TheVariants.{NoMemory};
 
 use crate::Source;
@@ -50,6 +50,8 @@ pub struct FolderEntry {
     /// Without a slash.
     pub name: String,
     pub is_folder: bool,
+    /// What was known of a file as it was listed, as a look would have told it; `None` of a folder, and where the listing doesn't tell it.
+    pub stamp: Option<FileStamp>,
 }
 
 /// What is known of a file without opening it.
@@ -75,9 +77,10 @@ pub trait Folder {
     /// The folder never fails, and neither does a file that it opens.
     ghost steady: { Self → Type 0 };
 
-    /// What stands directly in a folder, in no particular order; `None` where there is no such folder.
+    /// What stands directly in a folder, in no particular order, with what is known of its files; `None` where there is no such folder.
     fn list(&mut self, alloc: Global, path: &str) -> Result<Option<Vec<FolderEntry>>, FolderFault>
         ensures listed { honest self.old → IfOk result (λ listing. IsListing (files self.old) path.now (entries_of listing)) }
+        ensures stamps { honest self.old → IfOk result (λ listing. AreStamped (files self.old) path.now (entries_of listing)) }
         ensures no_file { honest self.old → IfOk result (IsNoFile (files self.old) path.now) }
         ensures steady { steady self.old → IsOkUnless result NoMemory × steady self.new }
         ensures honest { honest self.old → honest self.new }

@@ -1,7 +1,7 @@
 // Folders of files in memory.
 ghost use Rattle.std.specs.Prelude.{◌≡◌, [], ◌∷◌, ◌++◌, OnOk, OnErr, option_copied};
-ghost use Rattle.song_files.specs.Added.{IsAdded};
-ghost use Rattle.song_files.specs.Folder.{File, file_at, file_of, stamp_of};
+ghost use Rattle.song_files.specs.Added.{IsAdded, IsStamped, told_of};
+ghost use Rattle.song_files.specs.Folder.{File, file_at, file_of, stamp_at, stamp_of};
 ghost use Rattle.song_files.specs.Listing.{behind, first_part, has_slash, AreApart};
 
 use crate::{FileStamp, Folder, FolderEntry, FolderFault, MemSource};
@@ -78,6 +78,16 @@ impl<'a> MemFolder<'a> {
         Ok(())
     }
 
+    // What is told of the file at a path.
+    fn stamp_at(&self, path: &str) -> Option<FileStamp>
+        ensures { result ≡ stamp_at self.now path.now }
+    {
+        match self.file_at(path) {
+            Some(file) => Some(file.stamp),
+            None => None,
+        }
+    }
+
     // The file that is looked at and opened.
     fn file_at(&self, path: &str) -> Option<&MemFile<'a>>
         ensures { option_copied result ≡ file_at self.now path.now }
@@ -103,8 +113,10 @@ impl<'a> Folder for MemFolder<'a> {
     fn list(&mut self, alloc: Global, path: &str) -> Result<Option<Vec<FolderEntry>>, FolderFault> {
         let mut entries = Vec::new(alloc);
         for file in &self.files {
-            if let Some(rest) = rest_below(path, file.path.as_str()) {
-                add_entry(alloc, &mut entries, rest)?;
+            let own = file.path.as_str();
+            if let Some(rest) = rest_below(path, own) {
+                let stamp = self.stamp_at(own);
+                add_entry(alloc, &mut entries, rest, stamp)?;
             }
         }
         if entries.is_empty() && !path.is_empty() {
@@ -114,10 +126,7 @@ impl<'a> Folder for MemFolder<'a> {
     }
 
     fn look(&mut self, _alloc: Global, path: &str) -> Result<Option<FileStamp>, FolderFault> {
-        match self.file_at(path) {
-            Some(file) => Ok(Some(file.stamp)),
-            None => Ok(None),
-        }
+        Ok(self.stamp_at(path))
     }
 
     fn open(&mut self, _alloc: Global, path: &str) -> Result<Option<MemSource<'a>>, FolderFault> {
@@ -138,9 +147,15 @@ pub(crate) fn rest_below<'a>(folder: &str, path: &'a str) -> Option<&'a str>
     path.strip_prefix(folder)?.strip_prefix("/")
 }
 
-// Adds the first part of a path, unless it is there or empty.
-fn add_entry(alloc: Global, entries: &mut Vec<FolderEntry>, path: &str) -> Result<(), AllocError>
-    ensures { OnOk result (IsAdded entries.old.items entries.new.items (first_part path.now) (has_slash path.now)) }
+// Adds the first part of a path, unless it is there or empty; with what is told of the file, where it is one.
+fn add_entry(
+    alloc: Global,
+    entries: &mut Vec<FolderEntry>,
+    path: &str,
+    told: Option<FileStamp>,
+) -> Result<(), AllocError>
+    ensures added { OnOk result (IsAdded entries.old.items entries.new.items (first_part path.now) (has_slash path.now)) }
+    ensures stamp { OnOk result (IsStamped entries.old.items entries.new.items (first_part path.now) (has_slash path.now) told) }
 {
     let (name, is_folder) = first_name(path);
     if name.is_empty() {
@@ -152,8 +167,20 @@ fn add_entry(alloc: Global, entries: &mut Vec<FolderEntry>, path: &str) -> Resul
         }
     }
     let name = String::from_str(alloc, name)?;
-    entries.push(FolderEntry { name, is_folder })?;
+    let stamp = told_of(is_folder, told);
+    entries.push(FolderEntry {
+        name,
+        is_folder,
+        stamp,
+    })?;
     Ok(())
+}
+
+// What is told of a file, and nothing of a folder.
+fn told_of(is_folder: bool, told: Option<FileStamp>) -> Option<FileStamp>
+    ensures { result ≡ told_of is_folder told }
+{
+    if is_folder { None } else { told }
 }
 
 // The first part of a path, and whether more follows.

@@ -1,5 +1,5 @@
--- Changes of a batch that put another row in the place of a song's.
-use Rattle.std.specs.Prelude.{ℕ, Bool, false, List, count_by}
+-- Changes of a batch that put another row in the place of a song's, or drop one.
+use Rattle.std.specs.Prelude.{ℕ, Bool, true, false, List, count_by}
 use Rattle.song_db.specs.Row.{Row, row_at}
 use Rattle.song_db.specs.declared.change.RowChange.{RowChange}
 use Rattle.song_db.specs.declared.change.RowChange.TheVariants.{Put, Drop}
@@ -11,3 +11,10 @@ replaces songs (Drop uri) = false
 
 abbrev pub count_replaced : List Row → List RowChange → ℕ
 count_replaced songs changes = count_by (replaces songs) changes
+
+abbrev pub drops : RowChange → Bool
+drops (Put row) = false
+drops (Drop uri) = true
+
+abbrev pub count_dropped : List RowChange → ℕ
+count_dropped changes = count_by drops changes

@@ -1,6 +1,6 @@
-// Which changes of a batch put another row in the place of a song's.
+// Which changes of a batch put another row in the place of a song's, or drop one.
 ghost use Rattle.std.specs.Prelude.{◌≡◌, ◌≤◌, length};
-ghost use Rattle.stage_workers.specs.Replacing.{count_replaced, replaces};
+ghost use Rattle.stage_workers.specs.Replacing.{count_dropped, count_replaced, drops, replaces};
 
 use song_db::{RowChange, SongDb};
 
@@ -23,5 +23,21 @@ fn is_replacing(songs: &SongDb, change: &RowChange) -> bool
             Err(_) => false,
         },
         RowChange::Drop(_) => false,
+    }
+}
+
+/// How many drop one.
+pub(crate) fn count_dropped(changes: &[RowChange]) -> usize
+    ensures { result ≡ count_dropped changes.now }
+{
+    changes.iter().filter(|change| is_dropping(change)).count()
+}
+
+fn is_dropping(change: &RowChange) -> bool
+    ensures { result ≡ drops change.now }
+{
+    match change {
+        RowChange::Put(_) => false,
+        RowChange::Drop(_) => true,
     }
 }

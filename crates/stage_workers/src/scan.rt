@@ -4,6 +4,7 @@ ghost use Rattle.song_db.specs.Scan.{IsEnd, IsHonestAnswer, IsWholeAnswer};
 ghost use Rattle.stage_workers.specs.Scanning.{changes_of};
 ghost use Rattle.stage_workers.specs.Working.{GoesOn, HasWorked};
 
+use crate::replacing::count_dropped;
 use crate::worker::{Report, Wake, Worker};
 use crate::{Pass, StageError};
 use crossbeam_channel::Receiver;
@@ -23,6 +24,8 @@ use std::time::Clock;
 pub struct Scanned {
     /// How many songs that were known have another row since.
     pub replaced: usize,
+    /// How many songs that were known aren't any more.
+    pub dropped: usize,
     /// Memory ran out: what it found since its last report is lost, and what it had not read yet is as it was. One that the stage's end cut
     /// off is not left off.
     pub is_left_off: bool,
@@ -67,6 +70,7 @@ pub fn scan_once<D: Disk, C: Ledger, P: Ledger, S: Ledger, F: Folder, R: Wait + 
     // Until its end is found.
     let mut scanned = Scanned {
         replaced: 0,
+        dropped: 0,
         is_left_off: true,
     };
     if let Ok(mut scan) = Scan::begin(worker.alloc, order) {
@@ -80,9 +84,11 @@ pub fn scan_once<D: Disk, C: Ledger, P: Ledger, S: Ledger, F: Folder, R: Wait + 
             };
             let is_last = changes.as_slice().len() < MAX_CHANGES;
             // No other thread changes rows, so that they are the same at the report.
-            let count = worker.stage.count_replaced(worker.rt, changes.as_slice());
+            let replaced = worker.stage.count_replaced(worker.rt, changes.as_slice());
+            let dropped = count_dropped(changes.as_slice());
             pass = worker.report(pass, &Report::Batch { job, changes })?;
-            scanned.replaced = scanned.replaced.saturating_add(count);
+            scanned.replaced = scanned.replaced.saturating_add(replaced);
+            scanned.dropped = scanned.dropped.saturating_add(dropped);
             if worker.stage.is_closed(worker.rt) {
                 scanned.is_left_off = false;
                 return Ok((pass, scanned));

@@ -1,7 +1,7 @@
 //! Clients that come to a daemon one after the other, some of them later.
 use crate::wires::TestStream;
 use driver_base::Fault;
-use mio_clients::Listener;
+use mio_clients::{ClockTime, Listener};
 use std::alloc::Global;
 use std::collections::VecDeque;
 use std::io::{self, ErrorKind};
@@ -38,6 +38,10 @@ impl Listener<TestStream> for Arrivals {
     // No time passes, so that nobody gives way.
     fn now(&mut self) -> u64 {
         0
+    }
+
+    fn clock(&mut self) -> Option<ClockTime> {
+        None
     }
 
     fn gave_way(&mut self, _client: u64, _silence: u64) {}

@@ -21,10 +21,9 @@ use std::io::BufRead;
 use std::sync::Wait;
 use std::thread::Threads;
 use std::time::Clock;
-use stock_streams::StockReady;
 
 /// The clients of a daemon.
-type DaemonClients = Clients<TestStream, Arrivals, StockReady<MemReady>>;
+type DaemonClients = Clients<TestStream, Arrivals, MemReady>;
 
 // Serves clients over a journal that was opened, without a line of the log.
 fn serve_opened<W: Threads + Wait + Clock + Sync>(
@@ -88,7 +87,7 @@ fn run<W: Threads + Wait + Clock + Sync>(
     disks: (DaemonDisk, DaemonDisk),
     arrivals: Arrivals,
 ) -> Result<ServeEnd<DaemonDisk>, AllocError> {
-    let ready = StockReady::new(MemReady::new());
+    let ready = MemReady::new();
     let mut clients = Clients::new(alloc, arrivals, ready)?;
     Ok(serve(waits, alloc, disks, &mut clients))
 }

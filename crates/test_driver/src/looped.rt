@@ -220,17 +220,6 @@ fn connect(
     Ok(turns::connect(clients, stream)?)
 }
 
-// A stock client waits to connect, over a network or not.
-fn connect_stock(
-    clients: &mut TestClients,
-    beside: &mut Beside,
-    client: u64,
-    is_remote: bool,
-) -> Result<(), Fault> {
-    let stream = beside.wires.add_stock(client, is_remote)?;
-    Ok(turns::connect(clients, stream)?)
-}
-
 fn tell_yielded(clients: &mut TestClients, printer: &mut Printer) {
     match turns::take_yielded(clients) {
         Some((client, silence)) => {
@@ -260,8 +249,6 @@ fn call(
     match word {
         "connect" => return connect(clients, beside, number(rest)?, false),
         "remote" => return connect(clients, beside, number(rest)?, true),
-        "stock" => return connect_stock(clients, beside, number(rest)?, false),
-        "remote_stock" => return connect_stock(clients, beside, number(rest)?, true),
         "pass" => turns::pass_time(clients, number(rest)?),
         "yielded" => tell_yielded(clients, &mut beside.printer),
         "accept" => tell_called(&mut beside.printer, turns::accept(clients, alloc)),

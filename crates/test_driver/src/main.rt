@@ -4,7 +4,6 @@
 mod arrivals;
 mod beside;
 mod calls;
-mod conversation;
 mod daemon;
 mod hand;
 mod kind;
@@ -21,7 +20,6 @@ mod threads;
 mod turns;
 mod wires;
 
-use conversation::hold_conversation;
 use daemon::run_daemon;
 use driver_base::clients::live_core;
 use driver_base::{Driver, Fault, Lines, write_out};
@@ -46,7 +44,6 @@ fn take_line<R: Threads + Wait + Clock + Sync, B: BufRead>(
     }
     match lines.line() {
         "make_core" => return live_core(host, lines),
-        "make_conversation" => return hold_conversation(host, lines),
         "make_loop" => return loop_once(host, rt, &mut driver.desk, true, lines),
         "open_loop" => return loop_once(host, rt, &mut driver.desk, false, lines),
         "daemon" => return run_daemon(host, rt, &mut driver.desk, lines),

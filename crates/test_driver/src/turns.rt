@@ -13,16 +13,15 @@ use std::alloc::{AllocError, Global};
 use std::sync::Wait;
 use std::sync::ledger::Ledger;
 use std::time::Clock;
-use stock_streams::StockReady;
 
 /// The clients of each loop.
-pub type TestClients = Clients<TestStream, MemListener<TestStream>, StockReady<MemReady>>;
+pub type TestClients = Clients<TestStream, MemListener<TestStream>, MemReady>;
 
 /// What a turn of the loop answered: its parts, or its refusal.
 pub type Turned = Result<Vec<Part<TestDisk>>, StageError>;
 
 pub fn new_clients(alloc: Global) -> Result<TestClients, AllocError> {
-    let ready = StockReady::new(MemReady::new());
+    let ready = MemReady::new();
     Clients::new(alloc, MemListener::new(alloc), ready)
 }
 

@@ -6,23 +6,9 @@ use mio_clients::MemStream;
 use std::alloc::Global;
 use std::cell::RefCell;
 use std::rc::Rc;
-use stock_streams::{DaemonTimes, StockStream, TellsTimes};
-
-/// No time passes.
-#[derive(Clone, Copy)]
-pub struct StillClock;
-
-impl TellsTimes for StillClock {
-    fn times(&self) -> DaemonTimes {
-        DaemonTimes {
-            uptime: 0,
-            db_update: 0,
-        }
-    }
-}
 
 /// The stream of each client, so that all is proved at one type.
-pub type TestStream = StockStream<MemStream<Input, Output>, StillClock>;
+pub type TestStream = MemStream<Input, Output>;
 
 #[derive(Drop)]
 pub struct Wires {
@@ -110,23 +96,8 @@ impl Wires {
         None
     }
 
-    /// A connection of a client of this number, of which none is there, that speaks the daemon's own protocol.
+    /// A connection of a client of this number, of which none is there.
     pub fn add(&mut self, client: u64, is_remote: bool) -> Result<TestStream, Fault> {
-        let stream = self.add_stream(client, is_remote)?;
-        Ok(StockStream::plain(stream))
-    }
-
-    /// The same of a stock client.
-    pub fn add_stock(&mut self, client: u64, is_remote: bool) -> Result<TestStream, Fault> {
-        let stream = self.add_stream(client, is_remote)?;
-        Ok(StockStream::translated(self.alloc, stream, StillClock))
-    }
-
-    fn add_stream(
-        &mut self,
-        client: u64,
-        is_remote: bool,
-    ) -> Result<MemStream<Input, Output>, Fault> {
         if self.find(client).is_some() {
             return Err(Fault::NoClient);
         }

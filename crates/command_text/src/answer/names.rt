@@ -2,7 +2,7 @@
 ghost use Rattle.std.specs.Prelude.{[], if◌then◌else◌};
 ghost use Rattle.command_text.specs.Answer.{Adds};
 ghost use Rattle.command_text.specs.AnswerNames.{directory_line, list_time, playlist_lines, sticker_line, value_line, tag_type_line};
-ghost use Rattle.command_text.specs.AnswerNames.{changed_line, command_line, count_lines, database_lines, listed_commands};
+ghost use Rattle.command_text.specs.AnswerNames.{changed_line, command_line, count_lines, database_lines, listed_commands, times_lines};
 ghost use Rattle.command_text.specs.Names.{is_listed};
 
 use crate::answer::dates::write_time;
@@ -111,4 +111,12 @@ pub fn write_statistics(
     write_number(out, "albums", albums)?;
     write_number(out, "songs", songs)?;
     write_whole_seconds(out, "db_playtime", milliseconds)
+}
+
+/// Adds the times of `stats`: for how many seconds the daemon has run, and when its database was last updated, in seconds since 1970.
+pub fn write_times(out: &mut Vec<u8>, uptime: u64, db_update: u64) -> Result<(), NoMemory>
+    ensures { Adds (times_lines uptime db_update) result out.old out.new }
+{
+    write_number(out, "uptime", uptime)?;
+    write_number(out, "db_update", db_update)
 }

@@ -58,7 +58,7 @@ pub runs_already : (place : Option (List ℕ)) (all : Bool) (m : MachineState) (
 runs_already place all m w runs = is_refused AlreadyUpdating _ m w (rw runs)
 
 update_begins : (place : Option (List ℕ)) (all : Bool) (m : MachineState) → m.job.runs ≡ false
-    → begins_job place all m ≡ begins (begun (next_job m.job.number) place all) (job_line (next_job m.job.number)) m
+    → begins_job place all m ≡ begins (begun (next_job m.job.number) place all m.clock.now) (job_line (next_job m.job.number)) m
 update_begins place all m free = rw free
 
 -- a job whose lines were told begins
@@ -78,22 +78,23 @@ begins_told profile job lines m w y g = record {
 
 -- so it is of the next job, told of a machine by another name
 pub job_began : (place : Option (List ℕ)) (all : Bool) (number : ℕ) (m n : MachineState) (w y : Work) (job : Job) → n ≡ m
-    → number ≡ next_job n.job.number → n.job.runs ≡ false → job ≡ begun number place all
+    → number ≡ next_job n.job.number → n.job.runs ≡ false → job ≡ begun number place all n.clock.now
     → Went m.saved.profile (says (job_line number) m) m w y → Went m.saved.profile (begins_job place all m) (record n { job = job }) w y
 job_began place all number m n w y job same is free began told =
     let next : number ≡ next_job m.job.number = is ∙ ap (λ (k : MachineState). next_job k.job.number) same in
     let runs : m.job.runs ≡ false = sym (ap (λ (k : MachineState). k.job.runs) same) ∙ free in
     let p = m.saved.profile in
     let means : begins job (job_line number) m ≡ begins_job place all m =
-    ap (λ (j : Job). begins j (job_line number) m) began ∙ ap (λ k. begins (begun k place all) (job_line k) m) next
+    ap (λ (j : Job). begins j (job_line number) m) (began ∙ ap (λ (k : MachineState). begun number place all k.clock.now) same)
+    ∙ ap (λ k. begins (begun k place all m.clock.now) (job_line k) m) next
     ∙ sym (update_begins place all m runs) in
     subst (λ (k : Meant). Went p k (record n { job = job }) w y) means
     (subst (λ (k : MachineState). Went p (begins job (job_line number) m) (record k { job = job }) w y) (sym same)
     (begins_told p job (job_line number) m w y told))
 
 -- what was counted of the songs
-pub counted : (songs all : List Row) (artists albums count total : ℕ) → songs ≡ all → artists ≡ length (values_of songs Artist)
-    → albums ≡ length (values_of songs Album) → count ≡ length songs → total ≡ total_of songs
+pub counted : (songs all : List Row) (artists albums count total : ℕ) → songs ≡ all → artists ≡ length (values_of all Artist)
+    → albums ≡ length (values_of all Album) → count ≡ length songs → total ≡ total_of songs
     → database_lines artists albums count total ≡ statistics all
 counted songs all artists albums count total same a b n t =
-    (λ i. database_lines (a i) (b i) (n i) (t i)) ∙ ap statistics same
+    (λ i. database_lines (a i) (b i) ((n ∙ ap (λ (rows : List Row). length rows) same) i) ((t ∙ ap total_of same) i))

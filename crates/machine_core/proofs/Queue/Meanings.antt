@@ -71,7 +71,7 @@ unfolding queue_meaning
 places_shown version range m span is = rw is
 
 -- the entries of ids stand in the queue
-place_within : (entries : List Entry) (id at : ℕ) → position_of entries id ≡ Some at → at < length entries
+pub place_within : (entries : List Entry) (id at : ℕ) → position_of entries id ≡ Some at → at < length entries
 place_within [] id at is = cc
 place_within (entry ∷ entries) id at is = (position-Some (λ other. other.id == id) (entry ∷ entries) at entry is).0
 

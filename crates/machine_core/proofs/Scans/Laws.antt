@@ -67,7 +67,7 @@ event_told m n before ops stuck is no_list lists place stickers =
 
 -- the end of a scan
 pub scan_ended : (job : ℕ) (m n : MachineState) (before : Before) (happened : Happened) → is_running job m ≡ true
-    → n ≡ record m { job = over m.job } → before ≡ before_of m → happened.ops.items ≡ []
+    → n ≡ record m { job = over m.clock.now m.job } → before ≡ before_of m → happened.ops.items ≡ []
     → happened.changed ≡ record (changed_since before [] n) { database = m.job.has_changed_a_row }
     → HasHappened (when_scanned job m) m n happened
 scan_ended job m n before happened running state is ops told = rw running (record {
@@ -79,7 +79,7 @@ scan_ended job m n before happened running state is ops told = rw running (recor
 })
   where
     after_it : MachineState
-    after_it = record m { job = over m.job }
+    after_it = record m { job = over m.clock.now m.job }
 
     changes : changed_since before [] n ≡ changed m after_it
     changes =

@@ -26,6 +26,7 @@ use Rattle.machine_core.specs.declared.steps.PlayerStep.{PlayerStep}
 use Rattle.machine_core.specs.declared.steps.PlayerStep.TheVariants as steps
 use Rattle.machine_core.proofs.CommandForms.{KeptBy, KnowsLength, OfForms, Turn, command_so, turned}
 use Rattle.machine_core.proofs.Sound.Commands.{turn_sound, when_fed_sound, when_found_sound}
+use Rattle.machine_core.proofs.Shuffling.{shuffled_holds, stopped_holds}
 use Rattle.machine_core.proofs.Sound.Frame.{FrameWithin}
 use Rattle.machine_core.proofs.Sound.Queues.{batch_stays}
 use Rattle.machine_core.proofs.Sound.Within.{batch_framed, edited_holds, ended_holds, failed_holds, halted_within, next_holds, play_holds, previous_holds}
@@ -60,6 +61,8 @@ forms_hold = record {
   says = λ text m holds. holds;
   edits = λ op text m fits free other. edited_holds op text m free;
   replaces = λ name m free other holds. record { queue = holds.queue; sound = holds.sound; frame = holds.frame };
+  shuffles = shuffled_holds;
+  stops = stopped_holds;
   begins = λ job text m own holds. record { queue = holds.queue; sound = holds.sound; frame = holds.frame };
   moves = move_holds;
   turns = turn_holds;

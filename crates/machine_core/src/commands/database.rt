@@ -1,5 +1,5 @@
 // The commands of the database and its scans.
-ghost use Rattle.std.specs.Prelude.{◌≡◌, ◌++◌, [], true, false, not, flat_map, unwrap_or};
+ghost use Rattle.std.specs.Prelude.{◌≡◌, ◌++◌, [], true, false, not, flat_map, length, unwrap_or};
 ghost use Rattle.command_text.specs.Answer.{Adds};
 ghost use Rattle.command_text.specs.AnswerNames.{directory_line, listed_commands};
 ghost use Rattle.command_text.specs.AnswerSongs.{song_lines};
@@ -7,12 +7,13 @@ ghost use Rattle.command_text.specs.AnswerStatus.{job_line};
 ghost use Rattle.profile.specs.Profile.{tags_of};
 ghost use Rattle.profile.specs.declared.profile.Profile.TheVariants.{Named, Wide};
 ghost use Rattle.song_db.specs.Change.{has_uri};
-ghost use Rattle.song_db.specs.Query.{is_folder};
+ghost use Rattle.song_db.specs.Query.{is_folder, values_of};
 ghost use Rattle.song_db.specs.Row.{row_at};
 ghost use Rattle.song_db.specs.ToldWalk.{told_folders_in, told_songs_in};
 ghost use Rattle.song_files.specs.TagSet.{tags_in};
+ghost use Rattle.song_files.specs.declared.tag.Tag.TheVariants.{Album, Artist};
 ghost use Rattle.machine_core.specs.Database.{database_meaning, begins_job, folder_info, info_at, all_at, all_below, root_lists};
-ghost use Rattle.machine_core.specs.Database.{shown_type, statistics};
+ghost use Rattle.machine_core.specs.Database.{shown_type, statistics, time_lines};
 ghost use Rattle.machine_core.specs.Meaning.{answers, says};
 ghost use Rattle.machine_core.specs.Memory.{database_takes_memory};
 ghost use Rattle.machine_core.specs.Work.{HasRoom, Performs, command_room};
@@ -27,7 +28,7 @@ use crate::machine::Machine;
 use crate::work::{Failure, Work};
 use command_text::{
     CommandRefusal, DatabaseCommand, NoMemory, TagMask, Text, write_commands, write_job,
-    write_song, write_statistics,
+    write_song, write_statistics, write_times,
 };
 use profile::Profile;
 use song_db::{Place, SongRow, Uri};
@@ -111,22 +112,41 @@ impl Machine {
 
     // `stats`: the values of both tags are counted already.
     fn put_statistics(&self, alloc: Global, work: &mut Work) -> Result<(), Failure>
-        ensures { Performs (says (statistics self.now.saved.songs) self.now) self.now self.now work.old work.new result }
+        ensures { Performs (says (statistics self.now.saved.songs ++ time_lines self.now.saved.profile self.now) self.now)
+            self.now self.now work.old work.new result }
     {
-        let songs = self.saved.songs();
-        let Ok(counts) = songs.value_counts(alloc) else {
+        let Ok(counts) = self.saved.songs().value_counts(alloc) else {
             return Err(Failure::NoMemory);
         };
-        let (artists, albums) = (counts.artists, counts.albums);
         let mark = work.text.len();
-        let written = write_statistics(
-            &mut work.text,
-            artists,
-            albums,
-            songs.len(),
-            songs.milliseconds(),
-        );
+        let written = self.write_all_statistics(&mut work.text, counts.artists, counts.albums);
         work.keep(mark, written)
+    }
+
+    // What is counted of the songs, of which there are so many artists and albums, and the times.
+    fn write_all_statistics(
+        &self,
+        out: &mut Vec<u8>,
+        artists: usize,
+        albums: usize,
+    ) -> Result<(), NoMemory>
+        requires artists { artists ≡ length (values_of self.now.saved.songs Artist) }
+        requires albums { albums ≡ length (values_of self.now.saved.songs Album) }
+        ensures { Adds (statistics self.now.saved.songs ++ time_lines self.now.saved.profile self.now) result out.old out.new }
+    {
+        let songs = self.saved.songs();
+        write_statistics(out, artists, albums, songs.len(), songs.milliseconds())?;
+        self.write_time_lines(out)
+    }
+
+    // The times, which the wide profile tells.
+    fn write_time_lines(&self, out: &mut Vec<u8>) -> Result<(), NoMemory>
+        ensures { Adds (time_lines self.now.saved.profile self.now) result out.old out.new }
+    {
+        match self.saved.profile() {
+            Profile::Named => Ok(()),
+            Profile::Wide => write_times(out, self.clock.uptime, self.updated_at()),
+        }
     }
 
     // `update` and `rescan`, which opens every file: a job begins, unless one runs.
@@ -145,7 +165,7 @@ impl Machine {
         }
         let number = self.job.next_number();
         self.tell_job(number, work)?;
-        self.job = Job::begun(number, place, opens_all);
+        self.job = Job::begun(number, place, opens_all, self.clock.now);
         Ok(())
     }
 

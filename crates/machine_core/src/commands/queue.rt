@@ -19,6 +19,7 @@ mod adding;
 mod moving;
 mod priorities;
 mod showing;
+mod shuffling;
 
 impl Machine {
     #[tactic(auto, unfolding(crate::specs::Queue::queue_meaning))]
@@ -147,28 +148,5 @@ impl Machine {
         let one = self.place_of_id(one)?;
         let other = self.place_of_id(other)?;
         self.edit(alloc, Op::Queue(QueueOp::Swap { one, other }), work)
-    }
-
-    #[tactic(auto, unfolding(crate::specs::Queue::queue_meaning))]
-    fn shuffle(
-        &mut self,
-        alloc: Global,
-        range: Option<PositionRange>,
-        work: &mut Work,
-    ) -> Result<(), Failure>
-        requires { HasRoom command_room work.old }
-        ensures performs { Performs (queue_meaning all_in_mask (commands.Shuffle range) self.old) self.old self.new work.old work.new
-            result }
-        ensures memory { result ≡ Err Failure.NoMemory → grows (queue_meaning all_in_mask (commands.Shuffle range) self.old) ≡ true }
-    {
-        let span = self.span_or_all(range)?;
-        if span.count() < 2 {
-            return Ok(());
-        }
-        let op = QueueOp::Shuffle {
-            start: span.start,
-            end: span.end,
-        };
-        self.edit(alloc, Op::Queue(op), work)
     }
 }

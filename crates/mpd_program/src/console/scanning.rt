@@ -14,7 +14,7 @@ use state_codec::Changes;
 use std::alloc::Global;
 use std::io::Write;
 
-impl<D: Disk, F: Folder, W: Write> Service<'_, D, F, W> {
+impl<D: Disk, F: Folder, W: Write> Service<'_, '_, '_, D, F, W> {
     // Reads for the job that runs, if one runs: each batch of changes is an event, and the end of the scan is one.
     pub(super) fn serve_job(&mut self) -> Result<(), Ending>
         requires { IsUsable self.old }

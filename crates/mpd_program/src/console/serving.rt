@@ -6,6 +6,7 @@ ghost use Rattle.mpd_program.specs.Serving.{ending_of, ending_with, fed, IsReady
 
 use super::Ending;
 use super::sending::{Unsent, send_outputs};
+use crate::daemon_clock::DaemonClock;
 use client_session::{Requests, Session};
 use command_text::Request;
 use daemon_core::Event;
@@ -39,19 +40,21 @@ pub(super) fn ending_with(served: Result<(), Ending>) -> Ending
     }
 }
 
-// What serves one client: its session over the stage, the folder that jobs read and their rules, and the writer of its answers.
-pub(super) struct Service<'a, D: Disk, F, W> {
+// What serves one client: its session over the stage, the folder that jobs read and their rules, the clock that tells the time before each
+// request, if there is one, and the writer of its answers.
+pub(super) struct Service<'a, 'c, 't, D: Disk, F, W> {
     pub(super) alloc: Global,
     pub(super) live: Live<D>,
     pub(super) session: Session,
     pub(super) client: u64,
     pub(super) folder: &'a mut F,
     pub(super) rules: LibraryRules,
+    pub(super) clock: Option<&'c DaemonClock<'t>>,
     pub(super) writer: &'a mut W,
 }
 
 // Where not all is served, the error says why.
-impl<D: Disk, F: Folder, W: Write> Service<'_, D, F, W> {
+impl<D: Disk, F: Folder, W: Write> Service<'_, '_, '_, D, F, W> {
     // Handles one event, and sends what it gives to the client.
     pub(super) fn serve_event(&mut self, event: Event) -> Result<(), Ending>
         requires usable { IsUsable self.old }
@@ -72,6 +75,18 @@ impl<D: Disk, F: Folder, W: Write> Service<'_, D, F, W> {
         if is_open { Ok(()) } else { Err(Ending::Whole) }
     }
 
+    // Tells the time, where a clock is at hand.
+    fn tell_time(&mut self) -> Result<(), Ending>
+        requires { IsReady self.old }
+        ensures served { Serves D.honest D.history D.faults W.contents [] self.old self.new result }
+        ensures idle { OnOk result (RunsNone self.new.live.state.machine.job) }
+    {
+        match self.clock {
+            None => Ok(()),
+            Some(clock) => self.serve_event(Event::Clock(clock.time())),
+        }
+    }
+
     // Handles a request, and then reads for the job that it began, if it began one.
     fn serve_request(&mut self, request: Request) -> Result<(), Ending>
         requires { IsReady self.old }
@@ -80,6 +95,7 @@ impl<D: Disk, F: Folder, W: Write> Service<'_, D, F, W> {
         ensures idle { OnOk result (RunsNone self.new.live.state.machine.job) }
     {
         let event = Event::Request(self.client, request);
+        self.tell_time()?;
         self.serve_event(event)?;
         self.serve_job()
     }

@@ -67,9 +67,10 @@ impl Player {
     /// The current song could not be played on. It counts in play and pause, with the present ticket alone: the player stops, and the song
     /// stays current, with its error.
     ///
-    /// As MPD has it, a song that can't be read in play is over, under `consume` too, and what follows it without `single` plays; the error
-    /// stays, until another song is over or a command starts one. So it stops only where as many entries in a row could not be read as the
-    /// queue has, where a random round that begins counts anew, or where the song would be followed by itself alone.
+    /// As MPD has it, a song that can't be read while it plays is passed by: it is over, under `consume` too, and what follows it without
+    /// `single` is started, but the error is shown. Where nothing follows, the player stops without a current song. It isn't passed by
+    /// where as many entries in a row, with it, could not be read as the queue has, not counting those that left; a random round that
+    /// begins counts anew. Nor is a song that would be followed by itself alone.
     pub fn failed(
         &mut self,
         entries: &Entries,

@@ -60,9 +60,9 @@ fn next_by(
 }
 
 impl Player {
-    /// The current song's position, and the position and the id of the song that its end would start in play, as MPD has it that of the
-    /// next song by the order of songs, if no random round begins with it. In random mode it draws a word for each entry: `KeptNext` keeps
-    /// what it answers.
+    /// The current song's position, and the position and the id of the song that its end would start in play, if no random round begins
+    /// with it. As MPD has it, that is what follows in the order of songs, whatever `single` and `consume` are, but with `single` and
+    /// `repeat` the song itself. In random mode it may draw a word for each entry: `KeptNext` keeps what it answers.
     pub fn shown(&self, entries: &Entries, settings: &PlaySettings) -> Shown
         ensures { result ≡ shown entries.now settings.now self.now }
     {

@@ -3,6 +3,7 @@ ghost use Rattle.std.specs.Prelude.{◌≡◌, IfOk, IsOkUnless, OnErr, OnOk, Ok
 ghost use Rattle.player_core.specs.Answered.{OnStep};
 ghost use Rattle.player_core.specs.Choice.{placed};
 ghost use Rattle.player_core.specs.Commands.{named, played_from, resumed, paused_if, paused, halted, previous_one, stepped, gone_back};
+ghost use Rattle.player_core.specs.Player.{stopped_without_song};
 ghost use Rattle.player_core.specs.Refusal.{AnswersIfMemory, refusal_of};
 
 use super::Player;
@@ -10,7 +11,7 @@ use crate::changes::Changes;
 use crate::choice::Choice;
 use crate::commanded::{begun, in_front, last_left, named, to_resume};
 use crate::placing::placed;
-use crate::played::{go_on, make_room, next_ticket, remove, start};
+use crate::played::{go_on, make_room, next_ticket, remove, start, stop_without_song};
 use crate::playing::PlayState;
 use crate::refusal::PlayerError;
 use crate::selector::Selector;
@@ -119,6 +120,13 @@ impl Player {
             self.playing.frame = 0;
             self.playing.ticket = next_ticket(self.playing.ticket);
         }
+    }
+
+    /// Stops, and no song stays current. The played ones stay.
+    pub fn drop_song(&mut self)
+        ensures { self.new ≡ stopped_without_song self.old }
+    {
+        stop_without_song(&mut self.playing);
     }
 
     /// `previous`: the song in front of the current one is started; in random mode the one that was started

@@ -4,6 +4,8 @@ ghost use Rattle.song_db.specs.Found.{found_of, IsFoundAt, IsKnown, IsOf, IsSong
 ghost use Rattle.song_db.specs.Music.{is_stamp, music_of, song_in};
 ghost use Rattle.song_db.specs.SameFolder.{IsSameFolder};
 ghost use Rattle.song_db.specs.Row.{kept_stamp};
+ghost use Rattle.song_files.specs.Folder.{stamp_at};
+ghost use Rattle.song_files.specs.Listing.{IsStampAt};
 
 use crate::change::RowChange;
 use crate::refusal::SongDbError;
@@ -26,6 +28,25 @@ pub(crate) enum Found {
     NoSong,
 }
 
+// What is known of a file without opening it: what a listing told, or, where it told nothing, what a look does.
+fn stamp_of<F: Folder>(
+    alloc: Global,
+    folder: &mut F,
+    uri: &Uri,
+    listed: Option<FileStamp>,
+) -> Result<Option<FileStamp>, FolderFault>
+    ensures stamp { F.honest folder.old → IsStampAt (F.files folder.old) uri.now listed →
+        IfOk result (λ stamp. stamp ≡ stamp_at (F.files folder.old) uri.now) }
+    ensures steady { F.steady folder.old → IsOkUnless result FolderFault.NoMemory × F.steady folder.new }
+    ensures honest { F.honest folder.old → F.honest folder.new }
+    ensures files { F.honest folder.old → F.files folder.new ≡ F.files folder.old }
+{
+    match listed {
+        Some(stamp) => Ok(Some(stamp)),
+        None => folder.look(alloc, uri.as_str()),
+    }
+}
+
 // Looks for a song at a path. A file that has the stamp with which it is known isn't opened.
 pub(crate) fn found_at<F: Folder>(
     alloc: Global,
@@ -33,10 +54,12 @@ pub(crate) fn found_at<F: Folder>(
     rules: LibraryRules,
     droppable: &Droppable,
     uri: Uri,
+    listed: Option<FileStamp>,
 ) -> Result<Found, SongDbError>
     ensures of { IfOk result (IsOf uri) }
-    ensures found { F.honest folder.old → IfOk result (IsFoundAt (music_of rules droppable.now.known (F.files folder.old)) uri) }
-    ensures sure { F.honest folder.old → F.steady folder.old →
+    ensures found { F.honest folder.old → IsStampAt (F.files folder.old) uri listed →
+        IfOk result (IsFoundAt (music_of rules droppable.now.known (F.files folder.old)) uri) }
+    ensures sure { F.honest folder.old → F.steady folder.old → IsStampAt (F.files folder.old) uri listed →
         IfOk result (IsSureAt (music_of rules droppable.now.known (F.files folder.old)) uri) }
     ensures folder { IsSameFolder F.honest F.steady F.files folder.old folder.new }
     ensures only { IsOkUnless result SongDbError.NoMemory }
@@ -45,7 +68,7 @@ pub(crate) fn found_at<F: Folder>(
         let opened = folder.open(alloc, uri.as_str());
         return found_in(alloc, rules, uri, None, opened);
     }
-    match folder.look(alloc, uri.as_str()) {
+    match stamp_of(alloc, folder, &uri, listed) {
         Ok(None) => Ok(Found::NoSong),
         Ok(Some(stamp)) => {
             if is_stamp(droppable.stamp(uri.as_str()), stamp) {

@@ -2,12 +2,14 @@
 ghost use Rattle.std.specs.Prelude.{◌≡◌, ◌↔◌, ℕ, ◌+◌, ◌<◌, ◌≤◌, true, false, List, [], ◌∷◌, ◌++◌, length, vec_len, vec_capacity, Err};
 ghost use Rattle.std.specs.Prelude.{IfOk, OnOk, IsOkUnless, IsTrue};
 ghost use Rattle.song_db.specs.Batch.{IsBatch, IsRead, after_listing, after_own, visit_after};
-ghost use Rattle.song_db.specs.Found.{IsVisitIn, visited};
-ghost use Rattle.song_db.specs.Pending.{listed_pending, own_pending, own_prefix, still_pending, times_pending};
+ghost use Rattle.song_db.specs.Found.{IsVisitIn, IsVisitTold, visited};
+ghost use Rattle.song_db.specs.Pending.{AreEntriesTold, AreTold, listed_pending, own_pending, own_prefix, still_pending, times_pending};
 ghost use Rattle.song_db.specs.Music.{music_of};
 ghost use Rattle.song_db.specs.Reader.{IsFilled, IsReadOn, IsSameOrderRead, IsSameScan};
 ghost use Rattle.song_db.specs.SameFolder.{IsSameFolder};
 ghost use Rattle.song_db.specs.Scan.{is_in, IsHonestRead, IsWholeRead};
+ghost use Rattle.song_files.specs.Folder.{File};
+ghost use Rattle.song_files.specs.Listing.{entries_of};
 
 use crate::change::RowChange;
 use crate::limits::MAX_CHANGES;
@@ -17,7 +19,7 @@ use crate::scan::found::{found_at, settle};
 use crate::scan::visit::{Visit, visit_of};
 use crate::scan::walk::{FolderWalk, prefix_of};
 use crate::uri::Uri;
-use song_files::{Folder, FolderEntry, FolderFault};
+use song_files::{FileStamp, Folder, FolderEntry, FolderFault};
 use std::alloc::Global;
 
 // What a scan has still to read, and what it may still drop.
@@ -53,11 +55,13 @@ impl Reader {
         ensures last { IfOk result (λ changes. length changes.items < MAX_CHANGES →
             (self.new.walk.pending ≡ []) × (self.new.droppable.left ≡ [])) }
         ensures begun { IfOk result (λ changes. self.new.is_begun ≡ true) }
-        ensures honest_read { F.honest folder.old → IfOk result (λ changes. IsHonestRead
+        ensures listed { F.honest folder.old → AreTold (F.files folder.old) self.old.walk.listed →
+            IfOk result (λ changes. AreTold (F.files folder.old) self.new.walk.listed) }
+        ensures honest_read { F.honest folder.old → AreTold (F.files folder.old) self.old.walk.listed → IfOk result (λ changes. IsHonestRead
             (music_of self.old.walk.rules self.old.droppable.known (F.files folder.old)) self.old.walk.place
             (still_pending self.old.is_begun self.old.walk) self.new.walk.pending
             self.old.droppable.left self.new.droppable.left changes.items) }
-        ensures whole_read { F.honest folder.old → F.steady folder.old →
+        ensures whole_read { F.honest folder.old → F.steady folder.old → AreTold (F.files folder.old) self.old.walk.listed →
             IfOk result (λ changes. IsWholeRead
             (music_of self.old.walk.rules self.old.droppable.known (F.files folder.old)) self.old.walk.place
             (still_pending self.old.is_begun self.old.walk) self.new.walk.pending
@@ -96,12 +100,14 @@ impl Reader {
             (music_of self.old.walk.rules self.old.droppable.known (F.files folder.old)) (F.steady folder.old) self.old.walk.place
             (own_pending self.old.walk.place) self.old.droppable.left changes.old.items
             self.new.walk.pending self.new.droppable.left changes.new.items) }
+        ensures listed { F.honest folder.old → AreTold (F.files folder.old) self.old.walk.listed →
+            OnOk result (AreTold (F.files folder.old) self.new.walk.listed) }
         ensures folder { IsSameFolder F.honest F.steady F.files folder.old folder.new }
         ensures only { IsOkUnless result SongDbError.NoMemory }
     {
         let listing = folder.list(alloc, self.walk.path());
         let visit = self.take_own(alloc, listing)?;
-        self.make(alloc, folder, changes, visit)
+        self.make(alloc, folder, changes, visit, None)
     }
 
     // Reads on until the batch is full or the walk at its end, and says whether it is full.
@@ -120,10 +126,12 @@ impl Reader {
         ensures batch { (start : List (List ℕ)) →
             IsBatch self.old.walk.rules self.old.walk.place start self.old.droppable.left changes.old.items →
             OnOk result (IsBatch self.old.walk.rules self.old.walk.place start self.new.droppable.left changes.new.items) }
-        ensures read { F.honest folder.old → OnOk result (IsReadOn
+        ensures read { F.honest folder.old → AreTold (F.files folder.old) self.old.walk.listed → OnOk result (IsReadOn
             (music_of self.old.walk.rules self.old.droppable.known (F.files folder.old)) (F.steady folder.old) self.old.walk.place
             self.old.walk.pending self.old.droppable.left changes.old.items
             self.new.walk.pending self.new.droppable.left changes.new.items) }
+        ensures listed { F.honest folder.old → AreTold (F.files folder.old) self.old.walk.listed →
+            OnOk result (AreTold (F.files folder.old) self.new.walk.listed) }
         ensures folder { IsSameFolder F.honest F.steady F.files folder.old folder.new }
         ensures only { IsOkUnless result SongDbError.NoMemory }
     {
@@ -135,8 +143,8 @@ impl Reader {
             if self.walk.is_at_end() {
                 return Ok(false);
             }
-            let visit = self.walk.next(alloc)?;
-            self.make(alloc, folder, changes, visit)?;
+            let next = self.walk.next(alloc)?;
+            self.make(alloc, folder, changes, next.0, next.1)?;
         }
         Err(SongDbError::NoMemory)
     }
@@ -153,13 +161,14 @@ impl Reader {
         self.droppable.keep_all();
     }
 
-    // Makes a visit. There is room for its change.
+    // Makes a visit, of a file with what a listing told of it. There is room for its change.
     fn make<F: Folder>(
         &mut self,
         alloc: Global,
         folder: &mut F,
         changes: &mut Vec<RowChange>,
         visit: Visit,
+        stamp: Option<FileStamp>,
     ) -> Result<(), SongDbError>
         requires visit { IsVisitIn self.old.walk.rules self.old.walk.place visit }
         requires room { vec_len changes.old < vec_capacity changes.old }
@@ -169,16 +178,25 @@ impl Reader {
         ensures batch { (start : List (List ℕ)) →
             IsBatch self.old.walk.rules self.old.walk.place start self.old.droppable.left changes.old.items →
             OnOk result (IsBatch self.old.walk.rules self.old.walk.place start self.new.droppable.left changes.new.items) }
-        ensures read { F.honest folder.old → OnOk result (IsReadOn
+        ensures read { F.honest folder.old → IsVisitTold (F.files folder.old) visit stamp → OnOk result (IsReadOn
             (music_of self.old.walk.rules self.old.droppable.known (F.files folder.old)) (F.steady folder.old) self.old.walk.place
             (visited visit ++ self.old.walk.pending) self.old.droppable.left changes.old.items
             self.new.walk.pending self.new.droppable.left changes.new.items) }
+        ensures listed { F.honest folder.old → AreTold (F.files folder.old) self.old.walk.listed →
+            OnOk result (AreTold (F.files folder.old) self.new.walk.listed) }
         ensures folder { IsSameFolder F.honest F.steady F.files folder.old folder.new }
         ensures only { IsOkUnless result SongDbError.NoMemory }
     {
         match visit {
             Visit::File(uri) => {
-                let found = found_at(alloc, folder, self.walk.rules(), &self.droppable, uri)?;
+                let found = found_at(
+                    alloc,
+                    folder,
+                    self.walk.rules(),
+                    &self.droppable,
+                    uri,
+                    stamp,
+                )?;
                 settle(&mut self.droppable, changes, found);
                 Ok(())
             }
@@ -202,6 +220,9 @@ impl Reader {
         ensures droppable { OnOk result (self.new.droppable.left ≡ after_listing uri.now listing self.old.droppable.left) }
         ensures pending { OnOk result ((path : List ℕ) → times_pending self.new.walk.pending path
             ≡ times_pending (listed_pending (uri.now ++ 47 ∷ []) listing) path + times_pending self.old.walk.pending path) }
+        ensures listed { OnOk result ((files : List File) →
+            IfOk listing (λ found. AreEntriesTold files (uri.now ++ 47 ∷ []) (entries_of found)) →
+            AreTold files self.old.walk.listed → AreTold files self.new.walk.listed) }
         ensures memory { listing ≡ Err FolderFault.NoMemory → result ≡ Err SongDbError.NoMemory }
         ensures only { IsOkUnless result SongDbError.NoMemory }
     {
@@ -227,6 +248,9 @@ impl Reader {
         ensures droppable { OnOk result (self.new.droppable.left ≡ after_own listing self.old.droppable.left) }
         ensures pending { OnOk result ((path : List ℕ) → times_pending self.new.walk.pending path
             ≡ times_pending (listed_pending (own_prefix self.old.walk.place) listing) path + times_pending self.old.walk.pending path) }
+        ensures listed { OnOk result ((files : List File) →
+            IfOk listing (λ found. AreEntriesTold files (own_prefix self.old.walk.place) (entries_of found)) →
+            AreTold files self.old.walk.listed → AreTold files self.new.walk.listed) }
         ensures memory { listing ≡ Err FolderFault.NoMemory → result ≡ Err SongDbError.NoMemory }
         ensures next { IfOk result (λ visit. visit ≡ visit_after self.old.walk.rules self.old.walk.place listing) }
         ensures visit { IfOk result (IsVisitIn self.old.walk.rules self.old.walk.place) }

@@ -3,14 +3,15 @@ ghost use Rattle.std.specs.Prelude.{◌≡◌, ◌↔◌, ◌==◌, ℕ, ◌+◌
 ghost use Rattle.std.specs.Prelude.{unwrap_or};
 ghost use Rattle.std.specs.List.{list_all};
 ghost use Rattle.std.specs.String.{string_bytes};
-ghost use Rattle.song_db.specs.Found.{IsPrefixIn, IsTaken, IsVisitIn, visit_at};
-ghost use Rattle.song_db.specs.Pending.{entries_pending, times_pending};
+ghost use Rattle.song_db.specs.Found.{IsPrefixIn, IsTaken, IsVisitIn, IsVisitTold, visit_at};
+ghost use Rattle.song_db.specs.Pending.{AreEntriesTold, AreTold, entries_pending, times_pending};
 ghost use Rattle.song_db.specs.Uri.{is_uri};
+ghost use Rattle.song_files.specs.Folder.{File};
 
 use crate::rules::LibraryRules;
 use crate::scan::visit::{Visit, visit_of};
 use crate::uri::Uri;
-use song_files::FolderEntry;
+use song_files::{FileStamp, FolderEntry};
 use std::alloc::{AllocError, Global};
 use std::cmp::Ordering;
 use std::marker::Model;
@@ -34,7 +35,7 @@ pub(crate) struct FolderWalk {
 }
 
 impl Model for FolderWalk {
-    ghost use Rattle.std.specs.Prelude.{ℕ, List, Option, string_bytes};
+    ghost use Rattle.std.specs.Prelude.{ℕ, List, Option, map, string_bytes};
     ghost use Rattle.std.specs.List.{All, flat_map};
     ghost use Rattle.song_db.specs.Found.{IsPrefixIn};
     ghost use Rattle.song_db.specs.Pending.{Walked, entries_pending};
@@ -45,6 +46,7 @@ impl Model for FolderWalk {
       rules = w.rules;
       place = w.place;
       pending = flat_map (λ level. entries_pending (string_bytes level.prefix) level.entries.items) w.levels.items;
+      listed = map (λ level. record { prefix = string_bytes level.prefix; entries = level.entries.items }) w.levels.items;
     } };
 
     ghost invariant = { λ w. All (λ level. IsPrefixIn w.place (string_bytes level.prefix)) w.levels.items };
@@ -52,7 +54,7 @@ impl Model for FolderWalk {
 
 impl FolderWalk {
     pub(crate) fn new(alloc: Global, rules: LibraryRules, place: Option<Uri>) -> FolderWalk
-        ensures { result ≡ record { rules = rules; place = place; pending = [] } }
+        ensures { result ≡ record { rules = rules; place = place; pending = []; listed = [] } }
     {
         FolderWalk {
             rules,
@@ -103,33 +105,37 @@ impl FolderWalk {
         ensures place { self.new.place ≡ self.old.place }
         ensures pending { OnOk result ((uri : List ℕ) → times_pending self.new.pending uri
             ≡ times_pending (entries_pending (string_bytes prefix) entries.items) uri + times_pending self.old.pending uri) }
+        ensures listed { OnOk result ((files : List File) → AreEntriesTold files (string_bytes prefix) entries.items →
+            AreTold files self.old.listed → AreTold files self.new.listed) }
     {
         entries.sort_unstable_by(|a, b| falling(a, b));
         self.levels.push(Level { prefix, entries })?;
         Ok(())
     }
 
-    // What is done at the next entry; `Nothing` where a folder is done with, too.
-    pub(crate) fn next(&mut self, alloc: Global) -> Result<Visit, AllocError>
+    // What is done at the next entry, and what the listing told of the file; `Nothing` where a folder is done with, too.
+    pub(crate) fn next(&mut self, alloc: Global) -> Result<(Visit, Option<FileStamp>), AllocError>
         ensures rules { self.new.rules ≡ self.old.rules }
         ensures place { self.new.place ≡ self.old.place }
-        ensures visit { IfOk result (IsVisitIn self.old.rules self.old.place) }
-        ensures taken { IfOk result (λ visit. IsTaken self.old.rules self.old.pending visit self.new.pending) }
+        ensures visit { IfOk result (λ next. IsVisitIn self.old.rules self.old.place next.0) }
+        ensures taken { IfOk result (λ next. IsTaken self.old.rules self.old.pending next.0 self.new.pending) }
+        ensures listed { IfOk result (λ next. (files : List File) → AreTold files self.old.listed →
+            AreTold files self.new.listed × IsVisitTold files next.0 next.1) }
     {
         let Some(mut level) = self.levels.pop() else {
-            return Ok(Visit::Nothing);
+            return Ok((Visit::Nothing, None));
         };
         let Some(entry) = level.entries.pop() else {
-            return Ok(Visit::Nothing);
+            return Ok((Visit::Nothing, None));
         };
         let visit = visit_at(alloc, self.rules, level.prefix.as_str(), &entry)?;
         self.levels.push_reserved(level);
-        Ok(visit)
+        Ok((visit, entry.stamp))
     }
 
     // Leaves all folders.
     pub(crate) fn stop(&mut self)
-        ensures { self.new ≡ record { rules = self.old.rules; place = self.old.place; pending = [] } }
+        ensures { self.new ≡ record { rules = self.old.rules; place = self.old.place; pending = []; listed = [] } }
     {
         self.levels.clear();
     }

@@ -8,7 +8,7 @@ ghost use Rattle.state_codec.specs.OpsSettings.{with_setting};
 ghost use Rattle.state_codec.specs.SavedState.{IsSavedState};
 ghost use Rattle.state_codec.specs.Stored.{state_of};
 ghost use Rattle.state_codec.specs.declared.op.Op.TheVariants.{SetOption, SetOrder, Queue};
-ghost use Rattle.state_codec.specs.declared.op.queue_op.QueueOp.TheVariants.{Delete};
+ghost use Rattle.state_codec.specs.declared.op.queue_op.QueueOp.TheVariants.{Delete, Move};
 
 use super::{Saved, SavedParts};
 use crate::op::{Op, Setting};
@@ -32,6 +32,18 @@ impl Saved {
         ensures { self.new ≡ after (Queue (Delete start end)) self.old }
     {
         let _ = self.parts.queue.delete_range(start as usize, end as usize);
+    }
+
+    /// Takes the entries from `start` up to, but not including, `end` out of the queue, and puts them back at a place of the rest, as the
+    /// op does. It takes no memory.
+    pub fn move_entries(&mut self, start: u32, end: u32, to: u32)
+        requires { queue_refusal (Move start end to) self.old ≡ None }
+        ensures { self.new ≡ after (Queue (Move start end to)) self.old }
+    {
+        let _ = self
+            .parts
+            .queue
+            .move_range(start as usize, end as usize, to as usize);
     }
 
     /// Sets an option, as the op does.

@@ -13,5 +13,6 @@ returns c =
       broken = stays.broken;
       found = stays.found;
       scanned = stays.scanned;
+      clocked = λ time m h. record { queue = h.queue; sound = h.sound; frame = h.frame };
     } in
     λ kept history saved. (within keeps kept history saved).frame

@@ -13,6 +13,7 @@ returns c =
       broken = stays.broken;
       found = stays.found;
       scanned = stays.scanned;
+      clocked = λ time m h. h;
     } in
     record {
       current = λ kept history. (sound keeps kept history).current;

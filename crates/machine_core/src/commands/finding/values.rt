@@ -1,8 +1,8 @@
 // The values that songs tell of a tag. For a tag that a song hasn't, another may stand in.
-ghost use Rattle.std.specs.Prelude.{◌≡◌, map, option_copied, IfOk, IsTrue, OnOk};
-ghost use Rattle.filter_expr.specs.Fallback.{told_tag};
+ghost use Rattle.std.specs.Prelude.{◌≡◌, [], ◌∷◌, map, option_copied, IfOk, IsTrue, MatchOption, OnOk};
+ghost use Rattle.filter_expr.specs.Fallback.{fallbacks, told_tag};
 ghost use Rattle.profile.specs.declared.profile.Profile.TheVariants.{Wide};
-ghost use Rattle.song_db.specs.Query.{with_texts};
+ghost use Rattle.song_db.specs.Query.{values_of, with_texts};
 ghost use Rattle.song_db.specs.Row.{Row};
 ghost use Rattle.song_files.specs.Tags.{texts_of};
 ghost use Rattle.machine_core.specs.Finding.{chosen, or_empty, told_texts, told_values};
@@ -53,9 +53,63 @@ fn values_of_all(
 ) -> Result<Texts<'_>, NoMemory>
     ensures { IfOk result (λ values. values ≡ told_values profile songs.now tag) }
 {
-    if !tells_own_alone(profile, tag) {
-        return told_by_all(alloc, profile, songs.rows(), tag);
+    if tells_own_alone(profile, tag) {
+        return own_values(alloc, songs, tag);
     }
+    match profile {
+        Profile::Named => told_by_all(alloc, profile, songs.rows(), tag),
+        Profile::Wide => wide_values(alloc, songs, tag),
+    }
+}
+
+// The values of all songs in the wide profile. Songs are looked at only where some have a tag and others another one in its place.
+fn wide_values(alloc: Global, songs: &SongDb, tag: Tag) -> Result<Texts<'_>, NoMemory>
+    ensures { IfOk result (λ values. values ≡ told_values Wide songs.now tag) }
+{
+    let next = told_instead(songs, tag);
+    let told = told_instead(songs, next);
+    let count = songs.count_tagged(told);
+    if count == songs.len() {
+        return own_values(alloc, songs, told);
+    }
+    if has_fallback(told) {
+        return told_by_all(alloc, Profile::Wide, songs.rows(), told);
+    }
+    let mut values = own_values(alloc, songs, told)?;
+    values.insert("")?;
+    Ok(values)
+}
+
+// The tag that is told for one: that in its place, where no song has it.
+fn told_instead(songs: &SongDb, tag: Tag) -> Tag
+    ensures { told_values Wide songs.now result ≡ told_values Wide songs.now tag }
+{
+    let count = songs.count_tagged(tag);
+    if count > 0 {
+        return tag;
+    }
+    match in_place_of(tag) {
+        Some(other) => other,
+        None => tag,
+    }
+}
+
+// The tag whose texts stand in for those of one, if there is one. Those in its own place stand in for both.
+fn in_place_of(tag: Tag) -> Option<Tag>
+    ensures { MatchOption result (fallbacks tag ≡ []) (λ other. fallbacks tag ≡ other ∷ fallbacks other) }
+{
+    match tag {
+        Tag::ArtistSort | Tag::AlbumArtist => Some(Tag::Artist),
+        Tag::AlbumSort => Some(Tag::Album),
+        Tag::AlbumArtistSort => Some(Tag::AlbumArtist),
+        _ => None,
+    }
+}
+
+// The values that songs have themselves, which stand in the index.
+fn own_values(alloc: Global, songs: &SongDb, tag: Tag) -> Result<Texts<'_>, NoMemory>
+    ensures { IfOk result (λ values. values ≡ values_of songs.now tag) }
+{
     match songs.distinct(alloc, tag) {
         Ok(values) => Ok(values),
         Err(_) => Err(NoMemory),

@@ -27,7 +27,7 @@ fn is_relative(to: Target) -> bool
 }
 
 // Whether the current song is one of the block.
-fn is_held(block: Span, current: Option<usize>) -> bool
+pub(super) fn is_held(block: Span, current: Option<usize>) -> bool
     ensures { result ≡ is_held block current }
 {
     match current {

@@ -6,11 +6,11 @@ use Rattle.song_db.proofs.told_near.span_up.Given as goal
 
 -- all songs so far are told before this one
 abbrev pub invariant-steps : goal.invariant-steps
-invariant-steps l = record {
+invariant-steps g l = record {
   within : l.low ≤ length l.told;
   some : 1 ≤ l.step;
-  before : AllWithin (IsBefore told_key (told_key l.row)) l.told 0 l.low;
+  before : AllWithin (IsBefore g.T.ToldSong.key (told_key l.row)) l.told 0 l.low;
 }
 
 abbrev pub decreases-steps : goal.decreases-steps
-decreases-steps l = length l.told - l.low
+decreases-steps g l = length l.told - l.low

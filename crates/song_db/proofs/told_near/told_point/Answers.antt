@@ -5,10 +5,10 @@ use Rattle.song_db.proofs.RowSplits.{range_rises, split_within}
 use Rattle.song_db.proofs.told_near.told_point.Goals as goal
 
 pub split_told-requires : goal.split_told-requires
-split_told-requires c = range_rises told_key c.args.told.now c.span_near-low.result.0 c.span_near-low.result.1 c.requires
+split_told-requires g c = range_rises g.T.ToldSong.key c.args.told.now c.span_near-low.result.0 c.span_near-low.result.1 c.requires
 
 pub returns-clause-split : goal.returns-clause-split
-returns-clause-split c =
+returns-clause-split g c =
     let low = c.span_near-low.result.0 in
     let high = c.span_near-low.result.1 in
     let size : length (slice_range c.args.told.now low high) ≡ high - low = omega (
@@ -18,5 +18,5 @@ returns-clause-split c =
       c.span_near-low.ensures.within,
     ) in
     let short : c.split_told.result ≤ high - low = omega (arith, size, c.split_told.ensures.bound) in
-    split_within told_key c.args.told.now (told_key c.args.row.now) low high c.split_told.result c.span_near-low.ensures.forward
+    split_within g.T.ToldSong.key c.args.told.now (told_key c.args.row.now) low high c.split_told.result c.span_near-low.ensures.forward
     c.span_near-low.ensures.within c.span_near-low.ensures.before c.span_near-low.ensures.behind short size c.split_told.ensures.split

@@ -1,4 +1,4 @@
-use Rattle.as_wave.proofs.WaveFiles.{listed_too, no_file_too}
+use Rattle.as_wave.proofs.WaveFiles.{listed_too, no_file_too, stamped_too}
 use Rattle.as_wave.proofs.folder.AsWaveFolder.list.Goals as goal
 
 pub returns-clause-listed : goal.returns-clause-listed
@@ -8,3 +8,7 @@ returns-clause-listed g c = λ told. listed_too c.list.result c.args.self.now.fo
 pub returns-clause-no_file : goal.returns-clause-no_file
 returns-clause-no_file g c = λ told. no_file_too c.list.result c.args.self.now.forms (g.F.Folder.files c.args.self.now.folder)
     c.args.path.now (c.list.ensures.no_file told)
+
+pub returns-clause-stamps : goal.returns-clause-stamps
+returns-clause-stamps g c = λ told. stamped_too c.list.result c.args.self.now.forms (g.F.Folder.files c.args.self.now.folder)
+    c.args.path.now (c.list.ensures.stamps told)

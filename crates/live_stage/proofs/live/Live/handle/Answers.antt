@@ -106,6 +106,24 @@ invariant_of-self-2 g c =
           (λ some. let held = (c.in_ok-number.ensures.any_moment some ha hb).kept in held.says),
     )
 
+pub returns-clause-step : goal.returns-clause-step
+unfolding step
+returns-clause-step g c =
+    let asked : Option ℕ → Stepped = λ k. step c.self.inside.core c.args.event k in
+    let did = c.in-Ok.ensures.ok in
+    let place : c.in-Ok.outcome.refused_at ≡ c.new.result.refused_at = sym (ap (λ t. t.refused_at) c.new.ensures) in
+    rw (← c.self.view_is) (record {
+      state = did.after ∙ ap (λ (k : Option ℕ). let now : Stepped = asked k in now.after) place;
+      outputs = ap (λ t. t.outputs) c.new.ensures ∙ did.outputs ∙ ap (λ (k : Option ℕ). let now : Stepped = asked k in now.outputs) place;
+      closes = ap (λ t. t.closes) c.new.ensures ∙ did.closes ∙ ap (λ (k : Option ℕ). let now : Stepped = asked k in now.closes) place;
+      ended = ap (λ t. t.ended) c.new.ensures ∙ did.ended ∙ ap (λ (k : Option ℕ). let now : Stepped = asked k in now.ended) place;
+      refused_at = ap (λ t. t.refused_at) c.new.ensures ∙ did.refused_at
+          ∙ ap (λ (k : Option ℕ). let now : Stepped = asked k in now.refused_at) place;
+      numbered = search rules;
+      numbers = search rules;
+      file = search rules;
+    })
+
 pub returns-clause-any_moment : goal.returns-clause-any_moment
 returns-clause-any_moment g c =
     let usable : c.self.inside.journal.is_spent ≡ false = ap (λ v. v.is_broken) c.self.view_is ∙ c.requires.usable in

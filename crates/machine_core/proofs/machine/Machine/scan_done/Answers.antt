@@ -8,5 +8,5 @@ pub returns : goal.returns
 returns c =
     let m = c.args.self.now in
     scan_ended c.args.job m _ c.before-before.result _ (sym c.if-not-runs_job.ensures)
-    (ap (λ (n : MachineState). record n { job = over n.job }) c.self.view_is) c.before-before.ensures.value c.new.ensures.items
+    (ap (λ (n : MachineState). record n { job = over n.clock.now n.job }) c.self.view_is) c.before-before.ensures.value c.new.ensures.items
     ((λ i. record (c.changed_since-changed.ensures i) { database = (c.self.view_is i).job.has_changed_a_row }))

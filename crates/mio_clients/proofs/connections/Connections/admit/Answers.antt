@@ -25,7 +25,7 @@ invariant_of-self g c =
 pub returns-clause-admitted : goal.returns-clause-admitted
 returns-clause-admitted g c =
     let e = c.insert_reserved-key.ensures in
-    let b : ConnectionsState g.row.S.Denot = record { clients = c.insert_reserved-key.new.self; events = c.connect.new.self.events; last_id = c.self.inside.last_id + 1; room = c.connect.new.self.room; left = c.self.inside.left.items; places = vec_capacity c.self.inside.left - vec_len c.self.inside.left; gone = c.self.inside.gone.value.items; time = c.self.inside.time } in
+    let b : ConnectionsState g.row.S.Denot = record { clients = c.insert_reserved-key.new.self; events = c.connect.new.self.events; last_id = c.self.inside.last_id + 1; room = c.connect.new.self.room; left = c.self.inside.left.items; places = vec_capacity c.self.inside.left - vec_len c.self.inside.left; gone = c.self.inside.gone.value.items; time = c.self.inside.time; clock_second = c.self.inside.clock_second } in
     subst (λ (s : ConnectionsState g.row.S.Denot). IsAdmitted c.args.stream s b) c.self.view_is (record {
       key = c.insert_reserved-key.result;
       client = c.new-client.result;
@@ -46,8 +46,8 @@ returns-clause-later g c =
     let rem = g.S.Stream.remaining in
     let con = g.S.Stream.contents in
     let e = c.insert_reserved-key.ensures in
-    let a : ConnectionsState g.row.S.Denot = record { clients = c.self.inside.clients; events = c.self.inside.queue.events; last_id = c.self.inside.last_id; room = c.self.inside.queue.room; left = c.self.inside.left.items; places = vec_capacity c.self.inside.left - vec_len c.self.inside.left; gone = c.self.inside.gone.value.items; time = c.self.inside.time } in
-    let b : ConnectionsState g.row.S.Denot = record { clients = c.insert_reserved-key.new.self; events = c.connect.new.self.events; last_id = c.self.inside.last_id + 1; room = c.connect.new.self.room; left = c.self.inside.left.items; places = vec_capacity c.self.inside.left - vec_len c.self.inside.left; gone = c.self.inside.gone.value.items; time = c.self.inside.time } in
+    let a : ConnectionsState g.row.S.Denot = record { clients = c.self.inside.clients; events = c.self.inside.queue.events; last_id = c.self.inside.last_id; room = c.self.inside.queue.room; left = c.self.inside.left.items; places = vec_capacity c.self.inside.left - vec_len c.self.inside.left; gone = c.self.inside.gone.value.items; time = c.self.inside.time; clock_second = c.self.inside.clock_second } in
+    let b : ConnectionsState g.row.S.Denot = record { clients = c.insert_reserved-key.new.self; events = c.connect.new.self.events; last_id = c.self.inside.last_id + 1; room = c.connect.new.self.room; left = c.self.inside.left.items; places = vec_capacity c.self.inside.left - vec_len c.self.inside.left; gone = c.self.inside.gone.value.items; time = c.self.inside.time; clock_second = c.self.inside.clock_second } in
     let admitted : IsAdmitted c.args.stream a b = (record {
       key = c.insert_reserved-key.result;
       client = c.new-client.result;

@@ -13,8 +13,8 @@ pub returns-in-Some-clause-later : goal.returns-in-Some-clause-later
 returns-in-Some-clause-later g c =
     let rem = g.S.Stream.remaining in
     let con = g.S.Stream.contents in
-    let a : ConnectionsState g.row.S.Denot = record { clients = c.self.inside.clients; events = c.self.inside.queue.events; last_id = c.self.inside.last_id; room = c.self.inside.queue.room; left = c.self.inside.left.items; places = vec_capacity c.self.inside.left - vec_len c.self.inside.left; gone = c.self.inside.gone.value.items; time = c.self.inside.time } in
-    let b : ConnectionsState g.row.S.Denot = record { clients = c.wait_slot.new.clients; events = c.self.inside.queue.events; last_id = c.self.inside.last_id; room = c.self.inside.queue.room; left = c.self.inside.left.items; places = vec_capacity c.self.inside.left - vec_len c.self.inside.left; gone = c.self.inside.gone.value.items; time = c.self.inside.time } in
+    let a : ConnectionsState g.row.S.Denot = record { clients = c.self.inside.clients; events = c.self.inside.queue.events; last_id = c.self.inside.last_id; room = c.self.inside.queue.room; left = c.self.inside.left.items; places = vec_capacity c.self.inside.left - vec_len c.self.inside.left; gone = c.self.inside.gone.value.items; time = c.self.inside.time; clock_second = c.self.inside.clock_second } in
+    let b : ConnectionsState g.row.S.Denot = record { clients = c.wait_slot.new.clients; events = c.self.inside.queue.events; last_id = c.self.inside.last_id; room = c.self.inside.queue.room; left = c.self.inside.left.items; places = vec_capacity c.self.inside.left - vec_len c.self.inside.left; gone = c.self.inside.gone.value.items; time = c.self.inside.time; clock_second = c.self.inside.clock_second } in
     let inv = c.self.invariant in
     let e = c.wait_slot.ensures in
     let on = all_moved rem con _ a b c.in-Some.key e.moved (λ x y is. reads_none rem con x y a.events (moves_waiting rem con x y is)) inv.distinct e.elsewhere.others refl (λ h. refl) refl in
@@ -24,8 +24,8 @@ pub invariant_of-self : goal.invariant_of-self
 invariant_of-self g c =
     let rem = g.S.Stream.remaining in
     let con = g.S.Stream.contents in
-    let a : ConnectionsState g.row.S.Denot = record { clients = c.self.inside.clients; events = c.self.inside.queue.events; last_id = c.self.inside.last_id; room = c.self.inside.queue.room; left = c.self.inside.left.items; places = vec_capacity c.self.inside.left - vec_len c.self.inside.left; gone = c.self.inside.gone.value.items; time = c.self.inside.time } in
-    let b : ConnectionsState g.row.S.Denot = record { clients = c.wait_slot.new.clients; events = c.self.inside.queue.events; last_id = c.self.inside.last_id; room = c.self.inside.queue.room; left = c.self.inside.left.items; places = vec_capacity c.self.inside.left - vec_len c.self.inside.left; gone = c.self.inside.gone.value.items; time = c.self.inside.time } in
+    let a : ConnectionsState g.row.S.Denot = record { clients = c.self.inside.clients; events = c.self.inside.queue.events; last_id = c.self.inside.last_id; room = c.self.inside.queue.room; left = c.self.inside.left.items; places = vec_capacity c.self.inside.left - vec_len c.self.inside.left; gone = c.self.inside.gone.value.items; time = c.self.inside.time; clock_second = c.self.inside.clock_second } in
+    let b : ConnectionsState g.row.S.Denot = record { clients = c.wait_slot.new.clients; events = c.self.inside.queue.events; last_id = c.self.inside.last_id; room = c.self.inside.queue.room; left = c.self.inside.left.items; places = vec_capacity c.self.inside.left - vec_len c.self.inside.left; gone = c.self.inside.gone.value.items; time = c.self.inside.time; clock_second = c.self.inside.clock_second } in
     let inv = c.self.invariant in
     let e = c.wait_slot.ensures in
     let on = all_moved rem con _ a b c.in-Some.key e.moved (λ x y is. reads_none rem con x y a.events (moves_waiting rem con x y is)) inv.distinct e.elsewhere.others refl (λ h. refl) refl in
@@ -37,7 +37,7 @@ returns-in_default-clause-later g c = all_itself g.S.Stream.remaining g.S.Stream
 
 pub returns-in-Some-clause-waits : goal.returns-in-Some-clause-waits
 returns-in-Some-clause-waits g c =
-    let b : ConnectionsState g.row.S.Denot = record { clients = c.wait_slot.new.clients; events = c.self.inside.queue.events; last_id = c.self.inside.last_id; room = c.self.inside.queue.room; left = c.self.inside.left.items; places = vec_capacity c.self.inside.left - vec_len c.self.inside.left; gone = c.self.inside.gone.value.items; time = c.self.inside.time } in
+    let b : ConnectionsState g.row.S.Denot = record { clients = c.wait_slot.new.clients; events = c.self.inside.queue.events; last_id = c.self.inside.last_id; room = c.self.inside.queue.room; left = c.self.inside.left.items; places = vec_capacity c.self.inside.left - vec_len c.self.inside.left; gone = c.self.inside.gone.value.items; time = c.self.inside.time; clock_second = c.self.inside.clock_second } in
     let e = c.wait_slot.ensures in
     now_waits c.args.self.now b c.args.id c.in-Some.key
     (subst (λ (s : ConnectionsState g.row.S.Denot). b ≡ record s { clients = b.clients }) c.self.view_is refl)

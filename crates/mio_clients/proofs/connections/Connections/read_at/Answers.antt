@@ -16,8 +16,8 @@ pub invariant_of-self : goal.invariant_of-self
 invariant_of-self g c =
     let rem = g.S.Stream.remaining in
     let con = g.S.Stream.contents in
-    let a : ConnectionsState g.row.S.Denot = record { clients = c.self.inside.clients; events = c.self.inside.queue.events; last_id = c.self.inside.last_id; room = c.self.inside.queue.room; left = c.self.inside.left.items; places = vec_capacity c.self.inside.left - vec_len c.self.inside.left; gone = c.self.inside.gone.value.items; time = c.self.inside.time } in
-    let b : ConnectionsState g.row.S.Denot = record { clients = c.drop_slot.new.clients; events = c.drop_slot.new.queue.events; last_id = c.self.inside.last_id; room = c.drop_slot.new.queue.room; left = c.drop_slot.new.left.items; places = vec_capacity c.drop_slot.new.left - vec_len c.drop_slot.new.left; gone = c.self.inside.gone.value.items; time = c.self.inside.time } in
+    let a : ConnectionsState g.row.S.Denot = record { clients = c.self.inside.clients; events = c.self.inside.queue.events; last_id = c.self.inside.last_id; room = c.self.inside.queue.room; left = c.self.inside.left.items; places = vec_capacity c.self.inside.left - vec_len c.self.inside.left; gone = c.self.inside.gone.value.items; time = c.self.inside.time; clock_second = c.self.inside.clock_second } in
+    let b : ConnectionsState g.row.S.Denot = record { clients = c.drop_slot.new.clients; events = c.drop_slot.new.queue.events; last_id = c.self.inside.last_id; room = c.drop_slot.new.queue.room; left = c.drop_slot.new.left.items; places = vec_capacity c.drop_slot.new.left - vec_len c.drop_slot.new.left; gone = c.self.inside.gone.value.items; time = c.self.inside.time; clock_second = c.self.inside.clock_second } in
     let inv = c.self.invariant in
     let r = c.read_slot-reading.ensures in
     let e = c.drop_slot.ensures in
@@ -36,8 +36,8 @@ pub invariant_of-self-else-is_refused : goal.invariant_of-self-else-is_refused
 invariant_of-self-else-is_refused g c =
     let rem = g.S.Stream.remaining in
     let con = g.S.Stream.contents in
-    let a : ConnectionsState g.row.S.Denot = record { clients = c.self.inside.clients; events = c.self.inside.queue.events; last_id = c.self.inside.last_id; room = c.self.inside.queue.room; left = c.self.inside.left.items; places = vec_capacity c.self.inside.left - vec_len c.self.inside.left; gone = c.self.inside.gone.value.items; time = c.self.inside.time } in
-    let b : ConnectionsState g.row.S.Denot = record { clients = c.read_slot-reading.new.clients; events = c.read_slot-reading.new.queue.events; last_id = c.self.inside.last_id; room = c.read_slot-reading.new.queue.room; left = c.self.inside.left.items; places = vec_capacity c.self.inside.left - vec_len c.self.inside.left; gone = c.self.inside.gone.value.items; time = c.self.inside.time } in
+    let a : ConnectionsState g.row.S.Denot = record { clients = c.self.inside.clients; events = c.self.inside.queue.events; last_id = c.self.inside.last_id; room = c.self.inside.queue.room; left = c.self.inside.left.items; places = vec_capacity c.self.inside.left - vec_len c.self.inside.left; gone = c.self.inside.gone.value.items; time = c.self.inside.time; clock_second = c.self.inside.clock_second } in
+    let b : ConnectionsState g.row.S.Denot = record { clients = c.read_slot-reading.new.clients; events = c.read_slot-reading.new.queue.events; last_id = c.self.inside.last_id; room = c.read_slot-reading.new.queue.room; left = c.self.inside.left.items; places = vec_capacity c.self.inside.left - vec_len c.self.inside.left; gone = c.self.inside.gone.value.items; time = c.self.inside.time; clock_second = c.self.inside.clock_second } in
     let inv = c.self.invariant in
     let r = c.read_slot-reading.ensures in
     let moved = read_some rem con c.read_slot-reading.result c.args.key a.clients b.clients a.events b.events r.idle r.read (λ h. absurd (cc (c.is_refused.ensures.1 h, c.if-is_refused.false))) in
@@ -51,8 +51,8 @@ pub returns-then-is_refused : goal.returns-then-is_refused
 returns-then-is_refused g c =
     let rem = g.S.Stream.remaining in
     let con = g.S.Stream.contents in
-    let a : ConnectionsState g.row.S.Denot = record { clients = c.self.inside.clients; events = c.self.inside.queue.events; last_id = c.self.inside.last_id; room = c.self.inside.queue.room; left = c.self.inside.left.items; places = vec_capacity c.self.inside.left - vec_len c.self.inside.left; gone = c.self.inside.gone.value.items; time = c.self.inside.time } in
-    let b : ConnectionsState g.row.S.Denot = record { clients = c.drop_slot.new.clients; events = c.drop_slot.new.queue.events; last_id = c.self.inside.last_id; room = c.drop_slot.new.queue.room; left = c.drop_slot.new.left.items; places = vec_capacity c.drop_slot.new.left - vec_len c.drop_slot.new.left; gone = c.self.inside.gone.value.items; time = c.self.inside.time } in
+    let a : ConnectionsState g.row.S.Denot = record { clients = c.self.inside.clients; events = c.self.inside.queue.events; last_id = c.self.inside.last_id; room = c.self.inside.queue.room; left = c.self.inside.left.items; places = vec_capacity c.self.inside.left - vec_len c.self.inside.left; gone = c.self.inside.gone.value.items; time = c.self.inside.time; clock_second = c.self.inside.clock_second } in
+    let b : ConnectionsState g.row.S.Denot = record { clients = c.drop_slot.new.clients; events = c.drop_slot.new.queue.events; last_id = c.self.inside.last_id; room = c.drop_slot.new.queue.room; left = c.drop_slot.new.left.items; places = vec_capacity c.drop_slot.new.left - vec_len c.drop_slot.new.left; gone = c.self.inside.gone.value.items; time = c.self.inside.time; clock_second = c.self.inside.clock_second } in
     let inv = c.self.invariant in
     let r = c.read_slot-reading.ensures in
     let e = c.drop_slot.ensures in
@@ -78,8 +78,8 @@ pub returns-else-is_refused : goal.returns-else-is_refused
 returns-else-is_refused g c =
     let rem = g.S.Stream.remaining in
     let con = g.S.Stream.contents in
-    let a : ConnectionsState g.row.S.Denot = record { clients = c.self.inside.clients; events = c.self.inside.queue.events; last_id = c.self.inside.last_id; room = c.self.inside.queue.room; left = c.self.inside.left.items; places = vec_capacity c.self.inside.left - vec_len c.self.inside.left; gone = c.self.inside.gone.value.items; time = c.self.inside.time } in
-    let b : ConnectionsState g.row.S.Denot = record { clients = c.read_slot-reading.new.clients; events = c.read_slot-reading.new.queue.events; last_id = c.self.inside.last_id; room = c.read_slot-reading.new.queue.room; left = c.self.inside.left.items; places = vec_capacity c.self.inside.left - vec_len c.self.inside.left; gone = c.self.inside.gone.value.items; time = c.self.inside.time } in
+    let a : ConnectionsState g.row.S.Denot = record { clients = c.self.inside.clients; events = c.self.inside.queue.events; last_id = c.self.inside.last_id; room = c.self.inside.queue.room; left = c.self.inside.left.items; places = vec_capacity c.self.inside.left - vec_len c.self.inside.left; gone = c.self.inside.gone.value.items; time = c.self.inside.time; clock_second = c.self.inside.clock_second } in
+    let b : ConnectionsState g.row.S.Denot = record { clients = c.read_slot-reading.new.clients; events = c.read_slot-reading.new.queue.events; last_id = c.self.inside.last_id; room = c.read_slot-reading.new.queue.room; left = c.self.inside.left.items; places = vec_capacity c.self.inside.left - vec_len c.self.inside.left; gone = c.self.inside.gone.value.items; time = c.self.inside.time; clock_second = c.self.inside.clock_second } in
     let inv = c.self.invariant in
     let r = c.read_slot-reading.ensures in
     let moved = read_some rem con c.read_slot-reading.result c.args.key a.clients b.clients a.events b.events r.idle r.read (λ h. absurd (cc (c.is_refused.ensures.1 h, c.if-is_refused.false))) in

@@ -4,4 +4,4 @@ use Rattle.song_db.proofs.song_db.SongDb.in_told_order.Goals as goal
 
 pub returns-clause-rows : goal.returns-clause-rows
 returns-clause-rows c = λ passes some. c.in_ok-in_told_order.ensures.rows ∙ told_passing passes c.args.self.now (rows_of c.args.rows.now)
-    (rw c.self.view_is at c.self.invariant.0.rising) some
+    (rw c.self.view_is at c.self.invariant.database.rising) some

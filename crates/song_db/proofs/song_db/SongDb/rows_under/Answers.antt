@@ -23,9 +23,9 @@ returns-else-is_empty-clause-answer c =
     rw (c.in-At.is, some_folder c.args.self.now c.rows_below-rows.result.now c.in-At.folder.now found some) (search rules)
 
 pub returns-in-Root-clause-rising : goal.returns-in-Root-clause-rising
-returns-in-Root-clause-rising c = rw c.as_slice.ensures.value c.self.invariant.0.rising
+returns-in-Root-clause-rising c = rw c.as_slice.ensures.value c.self.invariant.database.rising
 
 pub returns-else-is_empty-clause-rising : goal.returns-else-is_empty-clause-rising
 returns-else-is_empty-clause-rising c =
     rw (c.rows_below-rows.ensures, c.deref.ensures.value) (IsStrictlySortedBy-filter (by_text row_uri) (λ row. is_below
-    c.in-At.folder.now row.uri) c.self.inside.rows.items c.self.invariant.0.rising)
+    c.in-At.folder.now row.uri) c.self.inside.rows.items c.self.invariant.database.rising)

@@ -1,20 +1,30 @@
 use Rattle.std.proofs.lemmas.Result.{err_from_is_err_and}
-use Rattle.mpd_program.proofs.ServingLaws.{serves_on, usable_on}
+use Rattle.mpd_program.proofs.ServingLaws.{serves_before, serves_on, usable_on}
 use Rattle.mpd_program.proofs.console.serving.Service.serve_request.Goals as goal
 
+pub tell_time-requires : goal.tell_time-requires
+tell_time-requires g c = c.requires
+
 pub serve_event-requires-clause-usable : goal.serve_event-requires-clause-usable
-serve_event-requires-clause-usable g c = c.requires.usable
+serve_event-requires-clause-usable g c = usable_on c.in_ok-tell_time.ensures.served c.requires.usable
 
 pub serve_event-requires-clause-turn : goal.serve_event-requires-clause-turn
-serve_event-requires-clause-turn g c = c.requires.idle
+serve_event-requires-clause-turn g c = c.in_ok-tell_time.ensures.idle
 
 pub serve_job-requires : goal.serve_job-requires
-serve_job-requires g c = usable_on c.in_ok-serve_event.ensures.served c.requires.usable
+serve_job-requires g c =
+    usable_on c.in_ok-serve_event.ensures.served (usable_on c.in_ok-tell_time.ensures.served c.requires.usable)
+
+pub returns-in_err-tell_time-clause-served : goal.returns-in_err-tell_time-clause-served
+returns-in_err-tell_time-clause-served g c =
+    let p = err_from_is_err_and c.from_residual.result c.from_residual.ensures.1 in
+    rw (p.1, p.2) (serves_before _ c.in_err-tell_time.ensures.served)
 
 pub returns-in_err-serve_event-clause-served : goal.returns-in_err-serve_event-clause-served
 returns-in_err-serve_event-clause-served g c =
-    let p = err_from_is_err_and c.from_residual.result c.from_residual.ensures.1 in
-    rw (p.1, p.2) c.in_err-serve_event.ensures.served
+    let p = err_from_is_err_and c.from_residual-in_err-serve_event.result c.from_residual-in_err-serve_event.ensures.1 in
+    rw (p.1, p.2) (serves_on c.in_ok-tell_time.ensures.served c.in_err-serve_event.ensures.served)
 
 pub returns-clause-served : goal.returns-clause-served
-returns-clause-served g c = serves_on c.in_ok-serve_event.ensures.served c.serve_job.ensures.served
+returns-clause-served g c =
+    serves_on c.in_ok-tell_time.ensures.served (serves_on c.in_ok-serve_event.ensures.served c.serve_job.ensures.served)

@@ -13,15 +13,21 @@ loop-preserved g c =
       capacity = c.make.ensures.capacity ∙ c.loop.invariant.capacity;
       few = omega arith;
       batch = λ start batch. rw (place, rules) at (c.in_ok-make.ensures.batch start (rw (place, rules) (c.loop.invariant.batch start batch)));
-      read = λ honest.
+      listed = λ honest all.
+          let same = c.loop.invariant.folder.same_files honest in
+          let now = c.in_ok-next.ensures.listed (g.F.Folder.files c.args.folder.now) (c.loop.invariant.listed honest all) in
+          rw same at (c.in_ok-make.ensures.listed (c.loop.invariant.folder.honesty honest) (rw same now.0));
+      read = λ honest all.
           let files = music_of c.args.self.now.walk.rules c.args.self.now.droppable.known (g.F.Folder.files c.args.folder.now) in
           let steady = g.F.Folder.steady c.args.folder.now in
-          let made = rw (place, rules, c.loop.invariant.scan.known, c.loop.invariant.folder.same_files honest)
-          at (c.in_ok-make.ensures.read (c.loop.invariant.folder.honesty honest)) in
+          let same = c.loop.invariant.folder.same_files honest in
+          let now = c.in_ok-next.ensures.listed (g.F.Folder.files c.args.folder.now) (c.loop.invariant.listed honest all) in
+          let made = rw (place, rules, c.loop.invariant.scan.known, same)
+          at (c.in_ok-make.ensures.read (c.loop.invariant.folder.honesty honest) (rw same now.1)) in
           read_then files steady _ first _ _ _ _ _ _ _ _ _ c.loop.invariant.folder.steadiness
-          (read_then files steady steady first _ _ _ _ _ _ _ _ _ (λ is. is) (c.loop.invariant.read honest)
-          (read_taken files steady first c.loop.self.walk.pending c.next.new.self.pending c.in_ok-visit.visit c.loop.self.droppable.left
-          c.loop.changes.items (rw c.loop.invariant.scan.rules at c.in_ok-visit.ensures.taken)))
+          (read_then files steady steady first _ _ _ _ _ _ _ _ _ (λ is. is) (c.loop.invariant.read honest all)
+          (read_taken files steady first c.loop.self.walk.pending c.next.new.self.pending c.in_ok-next.next.0 c.loop.self.droppable.left
+          c.loop.changes.items (rw c.loop.invariant.scan.rules at c.in_ok-next.ensures.taken)))
           made;
       folder = folder_then g.F.Folder.honest g.F.Folder.steady g.F.Folder.files _ _ _ c.loop.invariant.folder c.make.ensures.folder;
     }

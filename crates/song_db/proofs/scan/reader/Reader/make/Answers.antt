@@ -7,6 +7,7 @@ use Rattle.song_db.specs.declared.refusal.SongDbError.{SongDbError}
 use Rattle.song_db.specs.declared.refusal.SongDbError.TheVariants.{NoMemory as MemoryRefused}
 use Rattle.song_db.proofs.BatchSteps.{batch_settled, songs_settled, batch_listed}
 use Rattle.song_db.proofs.HonestSteps.{found_sure, found_tells}
+use Rattle.song_db.proofs.ListedTold.{listing_told}
 use Rattle.song_db.proofs.ReaderSteps.{read_listed, read_none, read_told, then_ok}
 use Rattle.song_db.proofs.scan.reader.Reader.make.Goals as goal
 
@@ -35,10 +36,11 @@ returns-in_ok-found-in-File-clause-batch g c = λ start batch.
     c.in_ok-found-in-File.found batch (rw c.in-File.is at c.requires.visit).0 c.in_ok-found-in-File.ensures.of)
 
 pub returns-in_ok-found-in-File-clause-read : goal.returns-in_ok-found-in-File-clause-read
-returns-in_ok-found-in-File-clause-read g c = λ honest.
+returns-in_ok-found-in-File-clause-read g c = λ honest listed.
     let files = music_of c.args.self.now.walk.rules c.args.self.now.droppable.known (g.F.Folder.files c.args.folder.now) in
     let visit = rw c.in-File.is at c.requires.visit in
-    let told = rw c.rules.ensures at (c.in_ok-found-in-File.ensures.found honest) in
+    let stamp = rw c.in-File.is at listed in
+    let told = rw c.rules.ensures at (c.in_ok-found-in-File.ensures.found honest stamp) in
     rw (c.in-File.is, c.settle.ensures.changes, c.settle.ensures.left)
     (read_told files (g.F.Folder.steady c.args.folder.now) c.args.self.now.walk.place c.args.self.now.walk.pending
     c.args.self.now.droppable.left c.args.changes.now.items c.in-File.uri c.in_ok-found-in-File.found
@@ -46,7 +48,7 @@ returns-in_ok-found-in-File-clause-read g c = λ honest.
     (found_tells files c.args.self.now.walk.place c.in-File.uri c.in_ok-found-in-File.found visit.0 visit.1
     c.in_ok-found-in-File.ensures.of told)
     (λ steady. found_sure files c.args.self.now.walk.place c.in-File.uri c.in_ok-found-in-File.found visit.0 visit.1
-    (rw c.rules.ensures at (c.in_ok-found-in-File.ensures.sure honest steady))))
+    (rw c.rules.ensures at (c.in_ok-found-in-File.ensures.sure honest steady stamp))))
 
 pub returns-in-Folder-clause-batch : goal.returns-in-Folder-clause-batch
 returns-in-Folder-clause-batch g c = λ start batch.
@@ -55,7 +57,7 @@ returns-in-Folder-clause-batch g c = λ start batch.
     c.list-listing.result batch))
 
 pub returns-in-Folder-clause-read : goal.returns-in-Folder-clause-read
-returns-in-Folder-clause-read g c = λ honest.
+returns-in-Folder-clause-read g c = λ honest listed.
     then_ok c.take_listing.result (both_ok _ _ c.take_listing.result c.take_listing.ensures.droppable (both_ok _ _ c.take_listing.result
     c.take_listing.ensures.pending (under _ _ c.take_listing.result (λ steady. sure c.take_listing.result c.list-listing.result
     (c.list-listing.ensures.steady steady).0 c.take_listing.ensures.memory))))
@@ -66,6 +68,12 @@ returns-in-Folder-clause-read g c = λ honest.
     (rw c.as_str.ensures.text at (c.list-listing.ensures.listed honest)) told.1.1 told.1.0))
 
 pub returns-in-Nothing-clause-read : goal.returns-in-Nothing-clause-read
-returns-in-Nothing-clause-read g c = λ honest.
+returns-in-Nothing-clause-read g c = λ honest listed.
     rw c.in-Nothing.is (read_none (music_of c.args.self.now.walk.rules c.args.self.now.droppable.known (g.F.Folder.files c.args.folder.now)) (g.F.Folder.steady c.args.folder.now) c.args.self.now.walk.place
     c.args.self.now.walk.pending c.args.self.now.droppable.left c.args.changes.now.items)
+
+pub returns-in-Folder-clause-listed : goal.returns-in-Folder-clause-listed
+returns-in-Folder-clause-listed g c = λ honest all.
+    then_ok c.take_listing.result c.take_listing.ensures.listed (λ told. told (g.F.Folder.files c.args.folder.now)
+    (listing_told c.list-listing.result (g.F.Folder.files c.args.folder.now) c.in-Folder.uri c.as_str.ensures.form
+    (rw c.as_str.ensures.text at (c.list-listing.ensures.stamps honest))) all)

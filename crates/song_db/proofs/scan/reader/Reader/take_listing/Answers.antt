@@ -8,3 +8,8 @@ pub returns-in_ok-enter-in-Ok-Some-clause-pending : goal.returns-in_ok-enter-in-
 returns-in_ok-enter-in-Ok-Some-clause-pending c = λ path.
     rw (c.in-Ok-Some.is, c.in-Ok-Some.field-0-is)
     (rw c.in_ok-prefix_of-in-Ok-Some.ensures at (c.in_ok-enter-in-Ok-Some.ensures.pending path))
+
+pub returns-in_ok-enter-in-Ok-Some-clause-listed : goal.returns-in_ok-enter-in-Ok-Some-clause-listed
+returns-in_ok-enter-in-Ok-Some-clause-listed c = λ files told all.
+    c.in_ok-enter-in-Ok-Some.ensures.listed files
+    (rw c.in_ok-prefix_of-in-Ok-Some.ensures (rw (c.in-Ok-Some.is, c.in-Ok-Some.field-0-is) at told)) all

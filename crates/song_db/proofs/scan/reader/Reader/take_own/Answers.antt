@@ -1,9 +1,11 @@
 use Rattle.std.proofs.Common.{◌≡◌, ℕ, ◌+◌, List, Option, Some, Ok, true, refl, sym, ap, ◌∙◌, rules}
-use Rattle.std.specs.Prelude.{Result}
+use Rattle.std.specs.Prelude.{Result, IfOk}
 use Rattle.std.specs.String.{string_bytes}
 use Rattle.std.specs.declared.vec.Vec.{Vec}
+use Rattle.song_files.specs.Folder.{File}
+use Rattle.song_files.specs.Listing.{entries_of}
 use Rattle.song_files.specs.declared.folder.FolderEntry.{FolderEntry}
-use Rattle.song_db.specs.Pending.{Pending, times_pending, entries_pending, listed_pending, own_prefix}
+use Rattle.song_db.specs.Pending.{AreEntriesTold, Pending, times_pending, entries_pending, listed_pending, own_prefix}
 use Rattle.song_db.specs.Scan.{is_in}
 use Rattle.song_db.specs.Uri.{is_uri}
 use Rattle.song_db.proofs.Prefixes.{prefix_in, own_in}
@@ -45,3 +47,20 @@ returns-in_ok-try_clone-in-Some-place-clause-visit c =
     (rw c.in-Some-place.is at c.place-in-Ok-None.ensures)) in
     rw (c.visit_of.ensures, c.rules.ensures) (own_visit_in c.args.self.now.walk.rules c.args.self.now.walk.place
     c.in_ok-try_clone-in-Some-place.field-0 within form)
+
+own_entries : {A E : Type 0} (place : Option (List ℕ)) (prefix : List ℕ) (entries : Vec FolderEntry A)
+    (listing : Result (Option (Vec FolderEntry A)) E) (files : List File) → listing ≡ Ok (Some entries) → prefix ≡ own_prefix place
+    → IfOk listing (λ found. AreEntriesTold files (own_prefix place) (entries_of found)) → AreEntriesTold files prefix entries.items
+own_entries place prefix entries listing files is own told = rw own (rw is at told)
+
+pub returns-in_ok-enter-in-Ok-Some-clause-listed : goal.returns-in_ok-enter-in-Ok-Some-clause-listed
+returns-in_ok-enter-in-Ok-Some-clause-listed c = λ files told all. elim c.match-place.branch [
+  | in-None w ↦ c.in_ok-enter-in-Ok-Some.ensures.listed files
+      (own_entries c.args.self.now.walk.place _ c.in-Ok-Some.entries c.args.listing files (c.in-Ok-Some.is ∙ ap Ok c.in-Ok-Some.field-0-is)
+      (ap string_bytes w.prefix-is ∙ w.new-prefix.ensures.bytes ∙ ap own_prefix (sym (rw w.in-None.is at (sym c.place.ensures)))) told)
+      (rw w.self-is all)
+  | in-Some+in_ok-prefix-in-Some w ↦ c.in_ok-enter-in-Ok-Some.ensures.listed files
+      (own_entries c.args.self.now.walk.place _ c.in-Ok-Some.entries c.args.listing files (c.in-Ok-Some.is ∙ ap Ok c.in-Ok-Some.field-0-is)
+      (ap string_bytes w.prefix-is ∙ w.in_ok-prefix-in-Some.ensures ∙ ap own_prefix (sym (rw w.in-Some.is at (sym c.place.ensures)))) told)
+      (rw w.self-is all)
+]

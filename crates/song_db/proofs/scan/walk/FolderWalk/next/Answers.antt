@@ -1,9 +1,10 @@
-use Rattle.std.proofs.Common.{◌≡◌, ◌++◌, Some, refl, sym, ap}
+use Rattle.std.proofs.Common.{◌≡◌, ◌++◌, Some, None, refl, sym, ap}
 use Rattle.std.specs.String.{string_bytes}
 use Rattle.std.proofs.lemmas.List.Elements.{All-pop, All-push, All-same}
 use Rattle.song_db.specs.declared.scan.walk.Level.{Level}
 use Rattle.song_db.specs.Found.{IsPrefixIn}
 use Rattle.song_db.specs.Pending.{Walked}
+use Rattle.song_db.proofs.ListedTold.{told_left, told_taken, visit_told}
 use Rattle.song_db.proofs.Taken.{taken_entry, popped, visit_in}
 use Rattle.song_db.proofs.scan.walk.FolderWalk.next.Goals as goal
 
@@ -34,3 +35,31 @@ returns-clause-visit c =
     rw (← rules, ← place, c.in_ok-visit.ensures, c.as_str.ensures.value) (visit_in c.self.inside.rules c.self.inside.place
     (string_bytes c.in-Some.level.prefix ++ string_bytes c.in-Some-pop.entry.name) c.in-Some-pop.entry.is_folder
     (popped.1 (string_bytes c.in-Some-pop.entry.name)))
+
+pub returns-clause-listed : goal.returns-clause-listed
+returns-clause-listed c = λ files all.
+    let taken = told_taken files (λ (level : Level). record { prefix = string_bytes level.prefix; entries = level.entries.items })
+    c.self.inside.levels.items c.pop.new.self.items c.push_reserved.new.self.items c.in-Some.level _ c.in-Some-pop.entry
+    c.args.self.now.listed (ap (λ (w : Walked). w.listed) (sym c.self.view_is)) c.in-Some.ensures.items c.in-Some-pop.ensures.items refl
+    c.push_reserved.ensures.items all in (
+      taken.0,
+      rw (c.in_ok-visit.ensures, c.as_str.ensures.value) (visit_told c.self.inside.rules
+          (string_bytes c.in-Some.level.prefix ++ string_bytes c.in-Some-pop.entry.name) c.in-Some-pop.entry.is_folder files
+          c.in-Some-pop.entry.stamp taken.1),
+    )
+
+pub returns-in_default-clause-listed : goal.returns-in_default-clause-listed
+returns-in_default-clause-listed c = λ files all. (
+  told_left files (λ (level : Level). record { prefix = string_bytes level.prefix; entries = level.entries.items })
+      c.self.inside.levels.items c.pop.new.self.items None c.args.self.now.listed (ap (λ (w : Walked). w.listed) (sym c.self.view_is))
+      c.in_default.ensures.items all,
+  tt,
+)
+
+pub returns-in_default-pop-clause-listed : goal.returns-in_default-pop-clause-listed
+returns-in_default-pop-clause-listed c = λ files all. (
+  told_left files (λ (level : Level). record { prefix = string_bytes level.prefix; entries = level.entries.items })
+      c.self.inside.levels.items c.pop.new.self.items (Some c.in-Some.level) c.args.self.now.listed
+      (ap (λ (w : Walked). w.listed) (sym c.self.view_is)) c.in-Some.ensures.items all,
+  tt,
+)

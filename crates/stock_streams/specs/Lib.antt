@@ -1,4 +1,0 @@
-pub mod Hearing
-pub mod Plain
-pub mod Reading
-pub mod Taken
