@@ -6,6 +6,8 @@ mod assertions;
 #[cfg(test)]
 mod files;
 #[cfg(test)]
+mod messages;
+#[cfg(test)]
 mod outputs;
 #[cfg(test)]
 mod pictures;

@@ -1,0 +1,7 @@
+mod Calls
+mod Copies
+mod NameLaws
+mod NameSteps
+mod Place
+mod Rising
+mod Steps

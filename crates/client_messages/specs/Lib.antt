@@ -1,0 +1,6 @@
+pub mod Channel
+pub mod Limits
+pub mod Listeners
+pub mod Messages
+pub mod Names
+pub mod Refusal
