@@ -6,6 +6,7 @@ PLAYLISTS = ["a", "Zoë", "late night", 'the "best"', "back\\slash"]
 STICKERS = ["rating", "played at", "ü"]
 MOST_ENTRIES = 12
 MOST_LISTED = 5
+CHANNELS, TEXTS = [*"aaaaaaaaab", "B", "c:1", "no/name", ""], ["", "x", 'say "x" \\', "é" * 400, "y" * 4000]
 
 
 def setting(state, draw):
@@ -102,12 +103,21 @@ def unsticking(state, draw):
         return ["sticker", "delete", "song", uri, *draw.choice([[name], []])]
 
 
-def pairs(state, draw):
-    """Pairs of a tag and a value, which some song has more often than not."""
+PATTERNS = ["^[A-Z]", "o", "[a-z]{3}", "(?i)ONE$", "d/.*f", "^T\\w+ \\d$", "wav|e", "\\bund\\b"]
+
+
+def filters(state, draw):
+    """Pairs of a tag and a value, which some song has more often than not; with the wide profile also expressions of one test."""
     song = draw.choice([*state.songs])
     values = {"title": state.songs[song].title or "none", "file": song, "any": "One", "base": draw.choice(["", "d", song])}
     tags = draw.sample([*values], draw.choice([1, 1, 2]))
-    return [word for tag in tags for word in (tag, values[tag])]
+    words = []
+    for tag in tags:
+        sign = draw.choice(["==", "!=", "contains", "!contains", "=~", "!~"])
+        value = draw.choice(PATTERNS) if "~" in sign else values[tag]
+        value = value.replace("\\", "\\\\")
+        words += [f"({tag} {sign} '{value}')"] if state.is_wide and tag != "base" and draw.random() < 0.6 else [tag, values[tag]]
+    return words
 
 
 def finding(state, draw):
@@ -115,10 +125,10 @@ def finding(state, draw):
     order = draw.choice([[], ["sort", draw.choice(["title", "-title", "file", "-file"])]])
     parts = [*order, *draw.choice([[], ["window", "0:2"], ["window", "1:"]])]
     place = [it for place in place_for(len(state.queue), draw) for it in ("position", place)]
-    ways = [[draw.choice(["findadd", "searchadd"]), *pairs(state, draw), *parts, *place]]
+    ways = [[draw.choice(["findadd", "searchadd"]), *filters(state, draw), *parts, *place]]
     name = draw.choice(PLAYLISTS)
     if len(state.playlists.get(name, ())) < MOST_ENTRIES:
-        ways.append(["searchaddpl", name, *pairs(state, draw)])
+        ways.append(["searchaddpl", name, *filters(state, draw)])
     return draw.choice(ways)
 
 
@@ -169,12 +179,19 @@ def playing(state, draw):
     return draw.choice(ways)
 
 
+def saying(draw):
+    """The words of what a client says to others, or does that they are told of."""
+    name, text = draw.choice([*CHANNELS, f"d{draw.randrange(20)}"]), draw.choice(TEXTS)
+    kinds = [["subscribe", name]] * 5 + [["sendmessage", name, text]] * 6 + [["unsubscribe", name], ["readmessages"], ["readmessages"]]
+    return draw.choice([*kinds, ["channels"], ["setvol", draw.choice("1234")], ["repeat", draw.choice("01")]])
+
+
 def reading(state, draw):
     """A command that reads."""
     ways = [[it] for it in ("ping", "commands", "notcommands", "tagtypes", "status", "stats", "listplaylists", "playlistinfo", "playlistid")]
     ways += [[it, *draw.choice([[], ["/"], [draw.choice([*state.songs])]])] for it in ("listall", "listallinfo", "lsinfo")]
-    ways += [[it, *pairs(state, draw)] for it in ("find", "search", "count", "playlistfind", "playlistsearch")]
-    ways += [["list", draw.choice(["title", "Artist"]), *draw.choice([[], pairs(state, draw)])]]
+    ways += [[it, *filters(state, draw)] for it in ("find", "search", "count", "playlistfind", "playlistsearch")]
+    ways += [["list", draw.choice(["title", "Artist"]), *draw.choice([[], filters(state, draw)])]]
     ways += [[it, str(draw.randrange(state.version + 2))] for it in ("plchanges", "plchangesposid")]
     ways += [[it, draw.choice([*state.playlists])] for it in ("listplaylist", "listplaylistinfo") if state.playlists]
     uri, name = draw.choice([*state.songs]), draw.choice(STICKERS)

@@ -6,7 +6,7 @@ import socket
 
 from daemons import Client, update
 from scripts import wave, write
-from stock_rows import MODIFIED, NAMES, TAGS
+from stock_rows import COUNTS, MODIFIED, NAMES, TAGS
 
 # In each folder they come by their albums as by their names.
 SONGS = {
@@ -17,6 +17,9 @@ SONGS = {
     "d/é é.wav": ["IART=One", "IPRD=Second"],
 }
 FIRST = ['add ""', "save old", "sticker set song a.wav n v", "command_list_begin\nplay 1\nstop\ncommand_list_end"]
+OPERATORS = ["==", "==", "!=", "=~", "!~"]
+PATTERNS = ["^[A-O]", "e$", "^.*o.+$", "(?i)x|o", "[[:digit:]]{2,4}", "\\bT\\w*?\\b", "(n|w)e", "a++", "*", "[z-a]", "\\d$", "Zo."]
+FORMATS = ["8000:16:1", "8000:*:*", "*:16:2", "44100:f:2", "dsd64:2", "*:*:*", "0:16:1", "8000:16", "x"]
 VALUES = ["", "One", "First", "x", "Zoë", 'say "x"', "2001", "a'b", "back\\slash"]
 
 
@@ -59,12 +62,10 @@ class Lines:
     def foreign(self):
         draw = self.draw
         words = ["0", "0", "1", "00", "nan", "off", "default", "x", "", "a.wav", "-1"]
-        usual = {"outputset": 3, "albumart": 2, "readpicture": 2, "sendmessage": 2}
-        none = {"outputs", "getvol", "playlist", "decoders", "channels", "urlhandlers", "listmounts", "listpartitions", "listneighbors"}
         name = draw.choice([*NAMES, "volume", "volume"])
         if name == "volume" and draw.random() < 0.8:
             return [name, draw.choice(["5", "+7", "-9", "-100", "100", "+0", "007", "101", "-101", "+-1", "-", "1.0"])]
-        count = usual.get(name, 0 if name in none or name == "replay_gain_status" else 1)
+        count = COUNTS[name]
         if draw.random() < 0.15:
             count = max(0, count + draw.choice([-1, 1]))
         return [name, *(draw.choice(words) for _ in range(count))]
@@ -73,8 +74,8 @@ class Lines:
         return self.draw.choice(VALUES)
 
     def quoted(self):
-        sign = self.draw.choice("'\"")
-        return sign + self.value().replace("\\", "\\\\").replace(sign, "\\" + sign) + sign
+        sign, value = self.draw.choice("'\""), self.draw.choice(PATTERNS) if self.draw.random() < 0.2 else self.value()
+        return sign + value.replace("\\", "\\\\").replace(sign, "\\" + sign) + sign
 
     def expression(self, depth=0):
         draw, kind = self.draw, self.draw.random()
@@ -86,10 +87,12 @@ class Lines:
             sign = draw.choice(["==", "!="])
             given = [f"(file {sign} {self.quoted()})", f"(filename {sign} {self.quoted()})", "(base 'd')", f"(FileName{sign}'a.wav')"]
             return draw.choice(given)
-        tag, blank = draw.choice([self.tag(), cased(draw, "any")]), draw.choice(["", " ", "  "])
+        tag, blank = draw.choice([self.tag(), self.tag(), cased(draw, "any"), "file"]), draw.choice(["", " ", "  "])
+        if draw.random() < 0.06:
+            return f"({cased(draw, 'AudioFormat')} {draw.choice(OPERATORS)} '{draw.choice(FORMATS)}')"
         if draw.random() < 0.3:
-            return f"({blank}{tag} contains {blank}{self.quoted()}{blank})"
-        return f"({blank}{tag} {draw.choice(['==', '!='])}{blank}{self.quoted()}{blank})"
+            return f"({blank}{tag} {draw.choice(['', '!'])}{cased(draw, 'contains')} {blank}{self.quoted()}{blank})"
+        return f"({blank}{tag}{blank or ' '}{draw.choice(OPERATORS)}{blank}{self.quoted()}{blank})"
 
     def damaged(self, text):
         """The text with a piece more or less at some places."""
@@ -102,9 +105,10 @@ class Lines:
 
     def filter(self):
         draw = self.draw
-        if draw.random() < 0.5:
-            return [self.expression() if draw.random() < 0.8 else self.damaged(self.expression())]
         pairs = [[draw.choice([self.tag(), self.tag(), "any", "file", "filename"]), self.value()] for _ in range(draw.randint(1, 3))]
+        for number in range(len(pairs)):
+            if draw.random() < 0.5:
+                pairs[number] = [self.expression() if draw.random() < 0.8 else self.damaged(self.expression())]
         if draw.random() < 0.05:
             pairs.append([draw.choice(["foo", "group", "albumartists"]), "x"])
         return [*(it for pair in pairs for it in pair), *(["odd"] if draw.random() < 0.05 else [])]

@@ -29,6 +29,9 @@ BEGINNING = [
 # What is done behind a row: the turns in which what was left is served, and a look at what there is.
 BEHIND = ["turn"] * 4
 LOOK = ["connect 4", "turn", "4> status%nidle", "turn", "turn"]
+# The same of clients of the wide profile that say something to one another.
+TALKS = ["2> noidle%nsubscribe a%nidle", "1> subscribe a", "turn", "2> idle", "turn"]
+TALKS_LOOK = ["connect 4", "turn", "4> channels%nsendmessage a y%nstatus%nidle", "turn", "turn"]
 # What each client asks for before the turn: `None` for one that only connects.
 ASKED = [
     {"1": "ping"},
@@ -46,6 +49,8 @@ ASKED = [
     {"3": None},
     {"1": "ping", "3": None},
 ]
+TOLD_OTHERS = [{"1": it} for it in ("sendmessage a x", "sendmessage a x%nreadmessages", "subscribe b", "unsubscribe a", "channels")]
+TOLD_OTHERS += [{"1": "subscribe b", "3": None}, {"1": "command_list_ok_begin%nsendmessage a x%nreadmessages%nsetvol 40%ncommand_list_end"}]
 # The same of a client that sends nothing more.
 ASKED_LAST = {"1": "ping%nping%nping%nstatus%nping"}
 # Lines before the row's, and the row's: calls by themselves, and what threads report.
@@ -112,9 +117,11 @@ class Turned:
 
     def __init__(self, program, front, line, asked=(), behind=(), is_report=False):
         self.program, self.asked, self.behind, self.is_report = program, dict(asked), behind, is_report
-        self.begun, self.line = [*BEGINNING, *front], line
+        self.begun, self.line, self.look = [*BEGINNING, *front], line, LOOK
+        if front == TALKS:
+            self.begun, self.look = ["profile wide", *self.begun], TALKS_LOOK
         told = [*front, *(f"{client}> {text}" for client, text in self.asked.items()), *behind]
-        self.name = f"loop, {' '.join(told)[:80]}: {line}"
+        self.name = f"loop, {' '.join(told)[-80:]}: {line}"
         self.wanted, self.worlds = None, {}
 
     def front(self, quiet=None):
@@ -143,12 +150,12 @@ class Turned:
         return range(before + 1, behind + 1)
 
     def told(self, place, front, line):
-        return told(self.run(place, [*front, *line, *BEHIND, *LOOK]).groups[len(front) :])[0]
+        return told(self.run(place, [*front, *line, *BEHIND, *self.look]).groups[len(front) :])[0]
 
     def fault(self, place, number):
         """What is wrong where this allocation is refused, or None; and whether the driver ended itself."""
         front = self.front()
-        run = self.run(place, [*front, self.line, *BEHIND, *LOOK], number)
+        run = self.run(place, [*front, self.line, *BEHIND, *self.look], number)
         if not run.is_well or not run.was_refused:
             return f"it ended otherwise: {run.told}", False
         groups = run.groups[len(front) :]
@@ -238,7 +245,7 @@ class Lived:
 
 def rows(program):
     """Each row, by its name."""
-    found = [Turned(program, [], "turn", asked) for asked in ASKED]
+    found = [Turned(program, [], "turn", asked) for asked in ASKED] + [Turned(program, TALKS, "turn", asked) for asked in TOLD_OTHERS]
     found += [Turned(program, [], "turn", ASKED_LAST, ["1 ends"])]
     found += [Turned(program, front, line) for front, line in CALLS]
     found += [Turned(program, front, line, is_report=True) for front, line in REPORTS]

@@ -6,10 +6,13 @@ No place is relative.
 
 import copy
 import functools
+import re
 import typing
 import unicodedata
 
 MASK = 2**32 - 1
+# An expression of one test.
+EXPRESSION = re.compile(r"\((\w+) (\S+) '(.*)'\)")
 
 # The settings and their values, in the order of the lines of `status`.
 SETTINGS = {
@@ -324,29 +327,43 @@ class State:
         first, end = span(text, len(self.listed(name)))
         self.insert([it for it in self.playlists[name][first:end] if it in self.songs], to)
 
-    # What is found, by pairs of a tag and a value.
+    # What is found, by pairs of a tag and a value, and by expressions of one test.
 
     def texts(self, uri, tag):
         """What the song has of the tag; the songs have no tag but a title."""
         song = self.songs[uri]
         return [uri] if tag == "file" else [song.title] if song.title and tag in ("title", "any") else []
 
-    def holds(self, uri, tag, value, is_folded):
+    def holds(self, uri, is_folded, tag, sign, value):
         if tag == "base":
             return uri in self.songs_of(value)
+        if sign[0] == "!":
+            return not self.holds(uri, is_folded, tag, {"!=": "==", "!~": "=~"}.get(sign, sign[1:]), value)
+        texts = self.texts(uri, tag)
+        if sign == "=~":
+            return any(re.search(value.encode(), it.encode(), re.DOTALL | re.IGNORECASE * is_folded) for it in texts)
         if not value:
-            return not self.texts(uri, tag)
-        return any(value.casefold() in it.casefold() if is_folded else value == it for it in self.texts(uri, tag))
+            return not texts
+        fold = str.casefold if is_folded else str
+        is_within = sign == "contains" or sign == "pair" and is_folded
+        return any(fold(value) in fold(it) if is_within else fold(value) == fold(it) for it in texts)
 
-    def matching(self, uris, pairs, is_folded):
-        return [uri for uri in uris if all(self.holds(uri, tag, value, is_folded) for tag, value in zip(pairs[::2], pairs[1::2]))]
+    def matching(self, uris, words, is_folded):
+        tests, words = [], list(words)
+        while words:
+            if words[0][0] == "(":
+                tag, sign, value = EXPRESSION.fullmatch(words.pop(0)).groups()
+                tests.append((tag, sign, re.sub(r"\\(.)", r"\1", value)))
+            else:
+                tests.append((words.pop(0), "pair", words.pop(0)))
+        return [uri for uri in uris if all(self.holds(uri, is_folded, *it) for it in tests)]
 
     def found(self, words, is_folded):
         """The songs that match, sorted and cut, and the place that is named."""
-        pairs, parts = list(words), {}
-        while pairs[-2] in ("sort", "window", "position"):
-            *pairs, name, parts[name] = pairs
-        found = self.matching(self.told(self.songs), pairs, is_folded)
+        words, parts = list(words), {}
+        while words[-2:-1] and words[-2] in ("sort", "window", "position"):
+            *words, name, parts[name] = words
+        found = self.matching(self.told(self.songs), words, is_folded)
         if order := parts.get("sort"):
             found.sort(key=lambda uri: [it.encode() for it in self.texts(uri, order.removeprefix("-"))], reverse=order.startswith("-"))
         # Past the end a window has nothing.

@@ -174,7 +174,7 @@ class SmallMpd(Listening):
 
     def lines(self, name, *words):
         if name == "commands":
-            return [f"command: {it}" for it in ("status", "listplaylists", "sticker", "subscribe") if it not in self.lacks]
+            return [f"command: {it}" for it in ("status", "listplaylists", "sticker", "addtagid") if it not in self.lacks]
         if name == "status":
             counts = [("playlist", self.version), ("playlistlength", len(self.queue))]
             return [f"{it}: {value}" for it, value in [*self.status.items(), *counts]]

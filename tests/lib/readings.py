@@ -67,7 +67,7 @@ class Readable(model.State):
         right = [(path, kind) for path, kind, rest in found if "/" not in rest or path == uri]
         folders = "".join(f"directory: {path}\n" for path, kind in right if kind == "directory")
         songs = self.song_lines(path for path, kind in right if kind == "file")
-        return songs + folders if self.is_wide else folders + songs
+        return songs + folders + (self.listplaylists() if uri in ("", "/") else "") if self.is_wide else folders + songs
 
     def find(self, *words):
         return self.song_lines(self.found(words, False)[0])

@@ -315,7 +315,8 @@ class Program:
 
 # What a stock client asks for: in one piece, in lists, in steps with several values at once; the last one changes something.
 ASKED = ["outputs", "tagtypes enable Title", "list Title group Artist", "count group Album", "command_list_ok_begin", "lsinfo", "playlist"]
-ASKED += ["command_list_end", "find albumartist Anna sort Track", "status", "volume -30"]
+ASKED += ["subscribe a", "channels", "sendmessage a x", "readmessages", "command_list_end"]
+ASKED += ["find \"(artist =~ 'n+a$')\" albumartist Anna sort Track", "status", "volume -30"]
 
 
 class Conversation(Program):

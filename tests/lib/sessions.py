@@ -1,13 +1,16 @@
-"""The clients of the daemon over a plain player (lib/player.py): what each is given by docs/PROTOCOL.md, who waits in an `idle`, and who is
-told of what."""
+"""The clients of the daemon over a plain player (lib/player.py): what each is given by docs/PROTOCOL.md, who waits in an `idle`, who is told
+of what, and what they say to one another."""
 
+import re
 import typing
 
 import model
 
 GREETING = b"OK MPD 0.23.0\n"
 # In the order in which they are told.
-SUBSYSTEMS = ["database", "update", "stored_playlist", "playlist", "player", "mixer", "options", "sticker"]
+SUBSYSTEMS = ["database", "update", "stored_playlist", "playlist", "player", "mixer", "options", "sticker", "subscription", "message"]
+CHANNEL = re.compile(r"[A-Za-z0-9_.:-]{1,256}")
+MOST_CHANNELS, MOST_UNREAD, MOST_UNREAD_BYTES = 16, 64, 65_536
 
 # Lines that are answered so, whatever the state is.
 FIXED = {
@@ -69,6 +72,8 @@ class Clients:
 
     def __init__(self, state):
         self.state, self.pending, self.waiting, self.closed = state, {}, {}, set()
+        # The channels of each client, and the channel and text of each message that it hasn't read.
+        self.channels, self.unread = {}, {}
         # Whether the job that runs has changed a row, and whether the daemon is to end.
         self.has_found, self.has_ended = False, False
 
@@ -76,6 +81,7 @@ class Clients:
         other = Clients(self.state)
         other.pending = {client: set(it) for client, it in self.pending.items()}
         other.waiting, other.closed = dict(self.waiting), set(self.closed)
+        other.channels, other.unread = dict(self.channels), dict(self.unread)
         other.has_found, other.has_ended = self.has_found, self.has_ended
         return other
 
@@ -85,15 +91,16 @@ class Clients:
         state = self.state
         kept = state.seen(), state.stamps, state.next_id, state.order_number, state.jobs, state.job
         plays = state.state, state.current, state.ticket, state.frame, *state.played, state.error
-        return self.has_ended, *sorted(self.closed), *kept, *plays, *sets
+        return self.has_ended, *sorted(self.closed), *kept, *plays, *sets, *self.channels.items(), *self.unread.items()
 
     def connect(self, client):
         self.pending[client], self.waiting[client] = set(), None
+        self.channels[client] = self.unread[client] = ()
         return [(client, GREETING)]
 
     def gone(self, client):
-        self.pending.pop(client, None)
-        self.waiting.pop(client, None)
+        for of_clients in (self.pending, self.waiting, self.channels, self.unread):
+            of_clients.pop(client, None)
 
     def close(self, client):
         """The daemon closes it, once it was sent what it is owed."""
@@ -129,24 +136,74 @@ class Clients:
             for it in [*self.pending] if word == "kill" else [client]:
                 self.close(it)
             return []
-        return [(client, self.performed(request, stop))]
+        return [(client, self.performed(client, request, stop))]
 
-    def performed(self, request, stop):
+    def performed(self, client, request, stop):
         """Does commands, and gives their answer."""
-        given, was = "", self.state
-        for index, (state, lines) in enumerate(self.state.each(request.commands[:stop])):
-            self.mark(changed(was, state))
-            self.state = was = state
-            if isinstance(lines, model.Refused):
-                return f"{given}ACK [{lines.code}@{index}] {{{request.commands[index][0]}}} {lines.text}\n".encode()
-            given += lines + "list_OK\n" * request.is_list_ok
+        given = ""
+        for index, words in enumerate(request.commands[:stop]):
+            try:
+                given += self.done(client, words) + "list_OK\n" * request.is_list_ok
+            except model.Refused as refusal:
+                return f"{given}ACK [{refusal.code}@{index}] {{{words[0]}}} {refusal.text}\n".encode()
         if stop is not None:
             return f"{given}ACK [52@{stop}] {{{request.commands[stop][0]}}} out of memory\n".encode()
         return f"{given}OK\n".encode()
 
+    def done(self, client, words):
+        """Does a command, and gives its lines."""
+        if talk := self.TALKS.get(words[0]):
+            return talk(self, client, *words[1:]) or ""
+        state, lines = self.state.done(words)
+        self.mark(changed(self.state, state))
+        self.state = state
+        return lines
+
     def mark(self, names):
         for pending in self.pending.values():
             pending |= names
+
+    # What clients say to one another.
+
+    def subscribe(self, client, name):
+        own = self.channels[client]
+        if not CHANNEL.fullmatch(name):
+            raise model.Refused(2, "invalid channel name")
+        if len(own) == MOST_CHANNELS:
+            raise model.Refused(56, "subscription list is full")
+        if name in own:
+            raise model.Refused(56, "already subscribed to this channel")
+        self.channels[client] = (*own, name)
+        self.mark({"subscription"})
+
+    def unsubscribe(self, client, name):
+        if name not in self.channels[client]:
+            raise model.Refused(50, "not subscribed to this channel")
+        self.channels[client] = tuple(it for it in self.channels[client] if it != name)
+        self.mark({"subscription"})
+
+    def list_channels(self, _):
+        return "".join(f"channel: {it}\n" for it in sorted({name for own in self.channels.values() for name in own}))
+
+    def has_room(self, client, *message):
+        unread = [*self.unread[client], message]
+        return len(unread) <= MOST_UNREAD and sum(len(it.encode()) for said in unread for it in said) <= MOST_UNREAD_BYTES
+
+    def sendmessage(self, _, name, text):
+        if not CHANNEL.fullmatch(name):
+            raise model.Refused(2, "invalid channel name")
+        takers = [it for it, own in self.channels.items() if name in own and self.has_room(it, name, text)]
+        if not takers:
+            raise model.Refused(50, "nobody is subscribed to this channel")
+        for it in takers:
+            self.pending[it] |= set() if self.unread[it] else {"message"}
+            self.unread[it] += ((name, text),)
+
+    def readmessages(self, client):
+        unread, self.unread[client] = self.unread[client], ()
+        return "".join(f"channel: {name}\nmessage: {text}\n" for name, text in unread)
+
+    TALKS = {it.__name__: it for it in (subscribe, unsubscribe, sendmessage, readmessages)} | {"channels": list_channels}
 
     def told(self, given):
         """What an event gave, and behind it the lines of those who wait for what is pending."""

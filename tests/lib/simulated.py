@@ -5,7 +5,9 @@ A step is drawn by a number of its own for what there is then: so any of them ca
 """
 
 import collections
+import os
 import random
+import time
 
 import changes
 import drives
@@ -53,10 +55,12 @@ def grouped(asked):
 
 
 class Episode:
-    """A run of the driver from a fresh stage on."""
+    """A run of the driver from a fresh stage on; with the wide profile clients also say something to one another."""
 
-    def __init__(self, program, seed, library=None):
-        self.drive, self.seed = drives.Drive(program, library), seed
+    def __init__(self, program, seed, library=None, is_wide=False):
+        self.drive, self.seed, self.is_wide = drives.Drive(program, library), seed, is_wide
+        # How many songs were written, each in another second.
+        self.written = 0
         self.files, self.songs = {}, {}
         self.speaker, self.streams, self.waiting = speaker.Speaker(), {}, []
         # The event that was last, how many of the workers' left outputs, and how few and how many ends of clients are still to be served.
@@ -86,7 +90,11 @@ class Episode:
     def begin(self):
         draw = random.Random(f"{self.seed}")
         self.clients = sessions.Clients(player.Player({}, KEY))
-        self.is_silent("folder d/e", *(self.put_song(uri, *SONGS[uri], draw) for uri in SONGS), "make_loop", "reads")
+        self.clients.state.is_wide = self.is_wide
+        self.is_silent(f"profile {'wide' if self.is_wide else 'named'}", "folder d/e")
+        for uri in SONGS:
+            self.put_song(uri, *SONGS[uri], draw)
+        self.is_silent("make_loop", "reads")
         self.connect(None)
         self.turn(draw)
         self.ask_alone(sessions.line(["update"]))
@@ -96,8 +104,11 @@ class Episode:
 
     def put_song(self, uri, frames, title, draw):
         self.files[uri] = speaker.song_file(frames, title, draw)
-        self.songs[uri] = player.model.Song(frames, title)
-        return f"file {uri} {self.files[uri].hex()}"
+        self.is_silent(f"file {uri} {self.files[uri].hex()}")
+        self.written += 1
+        os.utime(f"{self.drive.folder.name}/{uri}", (self.written, self.written))
+        modified = time.strftime("%Y-%m-%dT%H:%M:%SZ", time.gmtime(self.written)) if self.is_wide else ""
+        self.songs[uri] = player.model.Song(frames, title, modified)
 
     # Steps of clients.
 
@@ -123,6 +134,8 @@ class Episode:
 
     def request(self, draw):
         state, chance = self.clients.state, draw.random()
+        if self.is_wide and draw.random() < 0.4:
+            return sessions.line(changes.saying(draw))
         if chance < 0.12:
             names = draw.sample(sessions.SUBSYSTEMS, draw.choice([0, 0, 1, 2]))
             return sessions.line(["idle", *names])
@@ -373,8 +386,9 @@ class Episode:
         told = [it for it in printed if it == LEFT_OFF or it.startswith("scan ")]
         self.is_printed("scan_once", told, [f"scan {state.job} {len(state.songs)} /"])
         job, songs = state.job, dict(self.songs)
-        # A batch has what was read, changed or not, and what is gone.
-        events = [lambda: self.clients.batch(job, songs)] * bool(songs or state.songs) + [lambda: self.clients.scan_done(job)]
+        # A batch has what was read and what is gone. Without the wide profile all is read, changed or not.
+        is_read = songs != state.songs if self.is_wide else songs or state.songs
+        events = [lambda: self.clients.batch(job, songs)] * bool(is_read) + [lambda: self.clients.scan_done(job)]
         return self.is_reported(printed, events)
 
     def scan_in_parts(self, draw):
@@ -390,7 +404,7 @@ class Episode:
         for uri in sorted(chosen, key=str.encode):
             songs.pop(uri, None)
             if uri in self.songs:
-                songs[uri] = self.songs[uri]
+                songs[uri] = self.songs[uri]._replace(modified="")
                 title = f" Title {songs[uri].title.replace(' ', '_')}" if songs[uri].title else ""
                 lines.append(f"put {uri} {songs[uri].frames}{title}")
             elif uri in state.songs:
@@ -542,7 +556,10 @@ class Episode:
         return clients, due
 
     def look_again(self, states):
-        """All clients are let go of, and the state is looked at. A job goes on, and what it has found is told of at its end."""
+        """All clients are let go of, and the state is looked at. A job goes on, and what it has found is told of at its end. Behind this the
+        core isn't told that clients have gone, whose channels it then keeps."""
+        if self.is_wide:
+            raise Over
         self.do("close_all")
         self.streams, self.waiting, has_found = {}, [], self.clients.has_found
         self.look(states)
@@ -557,13 +574,12 @@ class Episode:
 
     def change_music(self, draw):
         uri = draw.choice([*SONGS])
-        lines = []
-        if uri in self.songs:
-            lines.append(f"remove {uri}")
+        was_there = uri in self.songs
+        if was_there:
+            self.is_silent(f"remove {uri}")
             del self.songs[uri], self.files[uri]
-        if not lines or draw.random() < 0.6:
-            lines.append(self.put_song(uri, draw.choice([0, 8, 80, 800]), draw.choice(["", "One", f"Take {draw.randrange(9)}"]), draw))
-        self.is_silent(*lines)
+        if not was_there or draw.random() < 0.6:
+            self.put_song(uri, draw.choice([0, 8, 80, 800]), draw.choice(["", "One", f"Take {draw.randrange(9)}"]), draw)
 
     # Lives.
 

@@ -120,7 +120,13 @@ PYTHON_MPD = [
     ("listmounts", [{"mount": ""}]),
     ("listneighbors", "![5@0] {listneighbors} No neighbor plugin configured"),
     ("password x", "![3@0] {password} incorrect password"),
-    *((it, UNKNOWN % it.split()[0]) for it in ("subscribe x", "unsubscribe x", "readmessages", "listfiles", "listfiles d", "config")),
+    ("subscribe x", None),
+    ("subscribe x", "![56@0] {subscribe} already subscribed to this channel"),
+    ("sendmessage x a_b", None),
+    ("channels", ["x"]),
+    ("readmessages", [{"channel": "x", "message": "a_b"}]),
+    ("unsubscribe x", None),
+    *((it, UNKNOWN % it.split()[0]) for it in ("listfiles", "listfiles d", "config")),
     ("searchaddpl made composer ", None),
     ("listplaylist made", ["a.wav", "b.wav", "d/c.wav", "d/e.wav", "d/é é.wav"]),
     ("rm made", None),
@@ -166,6 +172,12 @@ def mpc(daemon):
         ran = subprocess.run(["mpc", "-h", daemon.path, *words.split()], **how)
         said = (ran.stdout + ran.stderr).splitlines()
         check(f"mpc {words}", (ran.returncode, said), (status, said if text is None else text.split("|") if text else []))
+    words = ["mpc", "-h", daemon.path]
+    waiting = subprocess.Popen([*words, "waitmessage", "here"], stdout=subprocess.PIPE, text=True, env=SETTINGS)
+    with waiting, daemon.client() as client:
+        wait_for("mpc's channel", lambda: client.values("channels", "channel") == ["here"])
+        subprocess.run([*words, "sendmessage", "here", "a b"], check=True, timeout=LIMIT, env=SETTINGS)
+        check("mpc waitmessage", waiting.communicate(timeout=LIMIT)[0], "a b\n")
 
 
 class Terminal:

@@ -25,17 +25,16 @@ BELOW = ["directory: d", *FILES[2:]]
 QUEUE = [[*song, f"Pos: {place}", f"Id: {place + 1}"] for place, song in enumerate((B, A, Z, E, C))]
 STATUS = """volume: 100|repeat: 0|random: 0|single: 0|consume: 0|playlist: 2|playlistlength: 5|state: stop|song: 1|songid: 2|nextsong: 2
 nextsongid: 3|partition: default|mixrampdb: 0""".replace("\n", "|").split("|")
-NAMES = """albumart binarylimit channels crossfade decoders disableoutput enableoutput getvol listmounts listneighbors listpartitions
-mixrampdb mixrampdelay outputs outputset partition password playlist readcomments readpicture replay_gain_mode replay_gain_status
-sendmessage toggleoutput urlhandlers volume""".split()
 NO_OUTPUT, ALWAYS_ON = "50 No such audio output", "2 the only output is always on"
+NOBODY, NO_CHANNEL = "50 nobody is subscribed to this channel", "2 invalid channel name"
 NO_CROSSFADE, NO_MIXRAMP, NO_GAIN = "2 no crossfade here", "2 no mixramp here", "2 Unrecognized replay gain mode"
-# The names, each with how many arguments it has.
-COUNTS = {it: 0 for it in """channels decoders getvol listmounts listneighbors listpartitions outputs playlist replay_gain_status
-urlhandlers""".split()}
+# The names of commands, each with how many arguments it has.
+COUNTS = {it: 0 for it in """channels decoders getvol listmounts listneighbors listpartitions outputs playlist readmessages
+replay_gain_status urlhandlers""".split()}
 COUNTS |= {it: 1 for it in """binarylimit crossfade disableoutput enableoutput mixrampdb mixrampdelay partition password readcomments
-replay_gain_mode toggleoutput volume""".split()}
+replay_gain_mode subscribe toggleoutput unsubscribe volume""".split()}
 COUNTS |= {"albumart": 2, "readpicture": 2, "sendmessage": 2, "outputset": 3}
+NAMES = sorted(COUNTS)
 
 ROWS = [
     # The output.
@@ -67,7 +66,8 @@ ROWS = [
     ("decoders", DECODERS),
     ("urlhandlers", []),
     ("channels", []),
-    ("sendmessage a b", "50 nobody is subscribed to this channel"),
+    ("readmessages", []),
+    ("sendmessage a b", NOBODY),
     ("binarylimit 64", []),
     ("readcomments a.wav", []),
     ("readpicture a.wav 0", []),
@@ -139,7 +139,8 @@ ROWS = [
     ('list albumartist "(AlbumArtist == \'\')"', ["AlbumArtist: "]),
     ("list artist Artist gone", []),
     ("list artist \"(Artist == 'One') AND (Album == 'First')\"", "2 bad filter"),
-    ("list artist \"(Album == 'First') \"", "2 bad filter"),
+    ("list artist \"(Album == 'First') \"", ["Artist: One", "Artist: Two"]),
+    ("list artist \"(Album == 'First')x\"", "2 bad filter"),
     ("list artist \"(Album == 'First'\"", "2 bad filter"),
     ("list artist \"(foo == 'First')\"", '2 unknown tag "foo"'),
     ("list artist foo First", '2 unknown tag "foo"'),
@@ -205,7 +206,30 @@ ROWS = [
     ('find "(Composer contains \'x\')"', []),
     ('find "(filename == \'d/c.wav\')"', Z),
     ('find "(Mood == \'x\')"', '2 unknown tag "Mood"'),
-    ('find "(AlbumArtist =~ \'x\')"', "2 bad filter"),
+    # MPD's other ones: patterns over bytes, what isn't contained, the form of the sound, several in a row.
+    ('find "(AlbumArtist =~ \'x\')"', []),
+    ("find \"(title =~ '^[AZ]')\"", [*A, *Z]),
+    ("find \"(title=~'^.{5}$')\"", A),
+    ("find \"(Artist !~'n')\" sort -file", [*E, *Z, *B]),
+    ("search \"(title =~ 'ALPHA|ZOË')\"", A),
+    ("find \"(any =~ '')\" window 3:", C),
+    ("count \"(Composer =~ '')\"", ["songs: 5", "playtime: 10"]),
+    ("find \"(filename =~ '^d/[^c]\\\\.wav$')\"", E),
+    ("find \"(title =~ '(')\"", "2 bad filter"),
+    ("find \"(title =~ 'a++')\"", "2 bad filter"),
+    ("find \"(title = ~ 'a')\"", "2 bad filter"),
+    ("find \"(Title !contains 'a')\"", [*B, *Z, *C]),
+    ("find \"(Title CONTAINS 'lph')\"", A),
+    ("find \"(title starts_with 'Al')\"", A),
+    ("count \"(AudioFormat == '8000:16:1')\"", ["songs: 5", "playtime: 10"]),
+    ("count \"(audioformat =~ '*:16:2')\"", ["songs: 0", "playtime: 0"]),
+    ("find \"(AudioFormat == '*:16:1')\"", "2 bad filter"),
+    ("find \"(AudioFormat != '8000:16:1')\"", "2 bad filter"),
+    ("find \"(artist == 'One')\" album Second \"(file != 'b.wav')\"", C),
+    ("list album artist One \"(title == '')\"", ["Album: Second"]),
+    ("playlistfind \"(album =~ 'st$')\" artist Two", QUEUE[3]),
+    ("find \"(artist == 'One')\" album", '2 wrong number of arguments for "find"'),
+    ("find \"(artist == 'One')\" \"(album == 'First'\"", "2 bad filter"),
     ("count AlbumArtist One", ["songs: 2", "playtime: 4"]),
     ("count Composer x", ["songs: 0", "playtime: 0"]),
     ("playlistfind AlbumArtist Two", QUEUE[3]),
@@ -214,7 +238,8 @@ ROWS = [
     ("playlistfind Work x sort Title", '2 unknown tag "sort"'),
     # An empty value is within each text, also where there is none.
     ('search title ""', [*B, *A, *Z, *E, *C]),
-    ('search ANY ""', [*B, *A, *Z, *E, *C]),
+    ('search ANY ""', [*A, *Z, *E, *C]),
+    ('find any ""', []),
     ('search FileName "" artist two', E),
     ('search artist "" albumartist "" base d title say', E),
     ('search base "" window 1:2', A),
@@ -252,6 +277,9 @@ ROWS = [
     ("shuffle x", "2 bad argument 1"),
     ("shuffle :3", "2 bad argument 1"),
     ("shuffle 3:2", "2 bad argument 1"),
+    ("shuffle -2", "2 bad argument 1"),
+    ("shuffle -1:", "2 bad argument 1"),
+    ("shuffle 0:-1", "2 bad argument 1"),
     ("shuffle 0:4294967296", "2 bad argument 1"),
     ("shuffle 6:", "2 Bad song index"),
     ("shuffle 6:7", "2 Bad song index"),
@@ -271,7 +299,6 @@ ROWS = [
     ("volume -101", "2 bad argument 1"),
     ('volume ""', "2 bad argument 1"),
     ("list foo group Artist", '2 unknown tag "foo"'),
-    ("subscribe x", '5 unknown command "subscribe"'),
     ("Outputs", '5 unknown command "Outputs"'),
     ("", "5 No command given"),
     ('outputs"', "2 bad quoting"),
@@ -285,6 +312,86 @@ def refusal(request, text, index=0):
     code, _, said = text.partition(" ")
     is_named = text not in UNNAMED and not text.startswith("5 unknown command")
     return f"ACK [{code}@{index}] {{{request.split()[0].strip(chr(34)) if is_named else ''}}} {said}"
+
+
+# What clients say to one another: who asks, what, and the answer, for one that waits in `idle` what it is told. `close` has none, and what
+# begins with `-` isn't answered yet: that comes to `?`.
+OWN = "command_list_ok_begin\nsubscribe a\nsendmessage a \"\"\nreadmessages\nchannels\nunsubscribe a\ncommand_list_end"
+FULL = "command_list_begin\n" + "sendmessage a x\n" * 64 + "command_list_end"
+LARGE = "command_list_begin\n" + f"sendmessage a {'x' * 1_024}\n" * 63 + "command_list_end"
+A_FULL, A_TAKEN = "56 subscription list is full", "56 already subscribed to this channel"
+X = ["channel: a", "message: x"]
+TALKS = [
+    *((1, f"subscribe {it}", NO_CHANNEL) for it in ('""', "a/b", "é", '"a b"', "a=b", "a+b", "#", "~")),
+    *((1, f"{name} {it}", []) for name in ("subscribe", "unsubscribe") for it in ("A", "a-b_c.d:0", ":", "n" * 256)),
+    (1, "sendmessage a/b x", NO_CHANNEL),
+    (1, "unsubscribe a/b", "50 not subscribed to this channel"),
+    (1, "unsubscribe a", "50 not subscribed to this channel"),
+    (1, "sendmessage a x", NOBODY),
+    (1, OWN, ["list_OK", "list_OK", "channel: a", "message: ", "list_OK", "channel: a", "list_OK", "list_OK"]),
+    (1, "channels", []),
+    # All are told of who subscribes and unsubscribes, those alone of a message that had read all.
+    (3, "-idle subscription message", None),
+    (1, "subscribe a", []),
+    (3, "?", ["changed: subscription"]),
+    (1, "subscribe a", A_TAKEN),
+    (2, "subscribe b", []),
+    (2, "subscribe A", []),
+    (1, "idle subscription message\nnoidle", ["changed: subscription", "changed: message"]),
+    (3, "channels", ["channel: A", "channel: a", "channel: b"]),
+    (3, "idle subscription message\nnoidle", ["changed: subscription"]),
+    (1, "-idle message", None),
+    (2, "sendmessage b x", []),
+    (2, 'sendmessage a " say \\"x\\" \\\\ "', []),
+    (1, "?", ["changed: message"]),
+    (2, "sendmessage a x", []),
+    (1, "idle subscription message\nnoidle", []),
+    (2, "idle subscription message\nnoidle", ["changed: subscription", "changed: message"]),
+    (1, "readmessages", ["channel: a", 'message:  say "x" \\ ', *X]),
+    (1, "readmessages", []),
+    # What was read before `idle` is told all the same; what is unread stays behind `unsubscribe`.
+    (2, "sendmessage a x", []),
+    (1, "unsubscribe a", []),
+    (1, "subscribe c", []),
+    (2, "sendmessage c x", []),
+    (1, "readmessages", [*X, "channel: c", "message: x"]),
+    (1, "idle message\nnoidle", ["changed: message"]),
+    (1, "idle message\nnoidle", []),
+    # One that goes is gone with its channels, of which nobody is told.
+    (3, "idle subscription message\nnoidle", ["changed: subscription"]),
+    (2, "close", None),
+    (3, "idle subscription message\nnoidle", []),
+    (3, "channels", ["channel: c"]),
+    (3, "sendmessage b x", NOBODY),
+    (1, "unsubscribe c", []),
+    # What doesn't come is told where it comes to nobody.
+    (1, "subscribe a", []),
+    (3, FULL, []),
+    (3, "sendmessage a y", NOBODY),
+    (1, "idle message\nnoidle", ["changed: message"]),
+    (4, "subscribe a", []),
+    (3, "sendmessage a y", []),
+    (1, "idle message\nnoidle", []),
+    (1, "readmessages", X * 64),
+    (4, "readmessages", ["channel: a", "message: y"]),
+    # Sixteen channels.
+    *((1, f"subscribe c{number}", []) for number in range(15)),
+    (1, "subscribe more", A_FULL),
+    (1, "subscribe a", A_FULL),
+    (1, "subscribe a/b", NO_CHANNEL),
+    (1, "command_list_begin\nunsubscribe c3\nsubscribe more\nsubscribe more\ncommand_list_end", f"ACK [56@2] {{subscribe}} {A_FULL[3:]}"),
+    (3, "channels", [f"channel: {it}" for it in sorted(["a", "more", *(f"c{it}" for it in range(15) if it != 3)])]),
+    (3, "idle subscription\nnoidle", ["changed: subscription"]),
+]
+# Of bytes unread, and of bytes of a name, MPD takes more.
+LIMITED_TALK = [
+    (1, "subscribe a", []),
+    (2, LARGE, []),
+    (2, f"sendmessage a {'x' * 961}", NOBODY),
+    (2, f"sendmessage a {'x' * 960}", []),
+    (1, "readmessages", ["channel: a", f"message: {'x' * 1_024}"] * 63 + ["channel: a", f"message: {'x' * 960}"]),
+    (1, f"subscribe {'n' * 257}", NO_CHANNEL),
+]
 
 
 # What once took several requests. Behind each the volume is 100 again.

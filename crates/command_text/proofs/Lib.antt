@@ -18,6 +18,7 @@ pub mod ControlLaws
 pub mod LinesLaws
 pub mod NameSearch
 mod WordsText
+pub mod Mixed
 mod SearchParts
 mod SearchCounts
 mod FilterFaults

@@ -2,12 +2,13 @@
 use Rattle.std.proofs.Common.{◌≡◌, ◌≢◌, ℕ, zero, suc, ◌-◌, ◌<◌, ◌^◌, min, max, true, false, not, ◌&&◌, ◌||◌, ◌==◌, refl, sym, ◌∙◌, ap}
 use Rattle.std.proofs.Common.{arith}
 use Rattle.std.proofs.Common.{List, [], ◌∷◌, ◌++◌}
-use Rattle.std.specs.Int.{bit_at, bit_not, w32}
+use Rattle.std.specs.Int.{bit_at, bit_not, w64}
 use Rattle.std.specs.List.{flat_map}
 use Rattle.std.proofs.lemmas.Nat.Bits.{bit_at-zero, bit_at_ones, bit_at-pow_same, bit_at-pow_other, bit_at_or, bit_at_and, bit_at_not}
 use Rattle.std.proofs.lemmas.Nat.Bits.{bit_at-lt}
 use Rattle.command_text.specs.declared.tag_mask.TagMask.{TagMask}
 use Rattle.song_files.specs.declared.tag.Tag.{Tag}
+use Rattle.song_files.specs.declared.tag.TheConstants.{TAG_COUNT}
 use Rattle.command_text.specs.Masks.{all_in_mask, empty_mask, has, only_tag, with_tags, without_tags}
 use Rattle.command_text.specs.AnswerSongs.{tag_line, tag_lines}
 use Rattle.song_files.specs.Tag.{number_of}
@@ -45,7 +46,7 @@ pub in_empty : (tag : Tag) → has empty_mask tag ≡ false
 in_empty tag = no (bit_at 0 (number_of tag)) (bit_at-zero (number_of tag))
 
 pub in_all : (tag : Tag) → has all_in_mask tag ≡ true
-in_all tag = one (bit_at (2 ^ 31 - 1) (number_of tag)) (bit_at_ones 31 (number_of tag) (number_below tag))
+in_all tag = one (bit_at (2 ^ TAG_COUNT - 1) (number_of tag)) (bit_at_ones TAG_COUNT (number_of tag) (number_below tag))
 
 pub in_only : (tag : Tag) → has (only_tag tag) tag ≡ true
 in_only tag = one (bit_at (2 ^ number_of tag) (number_of tag)) (bit_at-pow_same (number_of tag))
@@ -60,14 +61,14 @@ in_both mask others tag =
     ∙ either (bit_at mask.bits (number_of tag)) (bit_at others.bits (number_of tag)) (bit_at-lt mask.bits (number_of tag))
     (bit_at-lt others.bits (number_of tag))
 
-pub in_rest : (mask others : TagMask) (tag : Tag) → others.bits < 2 ^ 32
+pub in_rest : (mask others : TagMask) (tag : Tag) → others.bits < 2 ^ 64
     → has (without_tags mask others) tag ≡ (has mask tag && not (has others tag))
 in_rest mask others tag h =
     let i = number_of tag in
-    let low : i < 31 = number_below tag in
-    let lt : i < 32 = omega arith in
-    ap (λ (n : ℕ). n == 1) (bit_at_and mask.bits (bit_not w32 others.bits) i ∙ ap (min (bit_at mask.bits i))
-    (bit_at_not w32 others.bits i h lt))
+    let low : i < TAG_COUNT = number_below tag in
+    let lt : i < 64 = omega arith in
+    ap (λ (n : ℕ). n == 1) (bit_at_and mask.bits (bit_not w64 others.bits) i ∙ ap (min (bit_at mask.bits i))
+    (bit_at_not w64 others.bits i h lt))
     ∙ one_alone (bit_at mask.bits i) (bit_at others.bits i) (bit_at-lt mask.bits i) (bit_at-lt others.bits i)
 
 -- where all tags are seen each text has its line

@@ -1,19 +1,21 @@
 -- Words part as a search exactly where their count is right, so each list of words has one answer.
 use Rattle.std.proofs.Common.{◌≡◌, ◌⊎◌, ◌↔◌, inl, inr, ℕ, ◌+◌, ◌≤◌, Bool, true, false, not, ◌&&◌, ◌==◌, nat_le, List, [], ◌∷◌, ◌++◌, length}
-use Rattle.std.proofs.Common.{Option, Some, None, Result, Err, refl, sym, ap, ◌∙◌, arith}
+use Rattle.std.proofs.Common.{take, drop, Option, Some, None, Result, Err, refl, sym, ap, ◌∙◌, subst, append_assoc, arith}
 use Rattle.std.specs.Prelude.{codes, ◌%◌}
 use Rattle.std.proofs.lemmas.Bool.{and_from, and_parts, le-leb}
 use Rattle.profile.specs.declared.profile.Profile.{Profile}
+use Rattle.profile.specs.declared.profile.Profile.TheVariants.{Named, Wide}
 use Rattle.filter_expr.specs.declared.case.Case.{Case}
 use Rattle.filter_expr.specs.Parts.{opening, begins_so}
 use Rattle.command_text.specs.declared.command.finding.FindingCommand.{FindingCommand}
 use Rattle.command_text.specs.declared.refusal.CommandRefusal.{CommandRefusal}
 use Rattle.command_text.specs.declared.refusal.CommandRefusal.TheVariants.{WrongCount}
 use Rattle.command_text.specs.Counts.{Word}
-use Rattle.command_text.specs.Finding.{is_even, has_search_count, find_of, find_add_of}
-use Rattle.command_text.specs.Search.{Parts, words_of, behind_window, behind_sort, behind_filter, ArePairs, IsExpression, IsPairs}
+use Rattle.command_text.specs.Finding.{is_even, is_begun, named_search_count, has_search_count, filter_length, find_of, find_add_of}
+use Rattle.command_text.specs.Search.{Parts, words_of, behind_window, behind_sort, behind_filter, ArePairs, IsExpression, IsPairs, IsOne}
+use Rattle.command_text.specs.Search.{IsMixed}
 use Rattle.command_text.specs.Search.{ArePartedSo, found_by, added_by, AreTwoByTwo, AreSearch, IsAnswer}
-use Rattle.command_text.proofs.SearchParts.{parts_of, parted_so, find_is, add_is}
+use Rattle.command_text.proofs.SearchParts.{drop_front, filter_counted, behind_is, parts_of, parted_so, find_is, add_is}
 
 -- ---- the count of words
 
@@ -71,27 +73,50 @@ even_rest p even = even_behind (words_of (codes "position") p.position) p.rest (
     (codes "sort") p.sort) (behind_sort p) (even_part (codes "sort") p.sort) even))
 
 counts_expression : (word : Word) (behind : List Word) → begins_so opening word ≡ true → AreTwoByTwo behind
-    → has_search_count (word ∷ behind) ≡ true
+    → named_search_count (word ∷ behind) ≡ true
 counts_expression word behind is even = rw (is, one_more word behind, counts_even behind even) refl
 
 counts_pairs : (tag value : Word) (words : List Word) → begins_so opening tag ≡ false → AreTwoByTwo words
-    → has_search_count (tag ∷ value ∷ words) ≡ true
+    → named_search_count (tag ∷ value ∷ words) ≡ true
 counts_pairs tag value words bare even =
     let two : 2 ≤ length (tag ∷ value ∷ words) = omega arith in
     rw bare (and_from _ _ (le-leb 2 (length (tag ∷ value ∷ words)) two) (two_more tag value words ∙ counts_even words even))
 
-counts_right : (adds : Bool) (words : List Word) (p : Parts) → AreSearch adds words p → has_search_count words ≡ true
-counts_right adds words p found = ap has_search_count found.parted.whole ∙ by_filter found.parted.filter
-  where
-    even : AreTwoByTwo (behind_filter p)
-    even = even_parts p found.even
+named_right : (adds : Bool) (filter behind : List Word) → IsExpression filter ⊎ IsPairs adds filter behind → AreTwoByTwo behind
+    → named_search_count (filter ++ behind) ≡ true
+named_right adds filter behind (inl one) even =
+    ap (λ (ws : List Word). named_search_count (ws ++ behind)) one.1 ∙ counts_expression one.0 behind one.2 even
+named_right adds filter behind (inr more) even =
+    ap (λ (ws : List Word). named_search_count (ws ++ behind)) more.whole
+    ∙ counts_pairs more.tag more.value (more.pairs ++ behind) more.bare
+    (even_append more.pairs behind (even_pairs adds more.pairs more.are_pairs) even)
 
-    by_filter : IsExpression p.filter ⊎ IsPairs adds p.filter (behind_filter p) → has_search_count (p.filter ++ behind_filter p) ≡ true
-    by_filter (inl one) = ap (λ (ws : List Word). has_search_count (ws ++ behind_filter p)) one.1
-        ∙ counts_expression one.0 (behind_filter p) one.2 even
-    by_filter (inr more) = ap (λ (ws : List Word). has_search_count (ws ++ behind_filter p)) more.whole
-        ∙ counts_pairs more.tag more.value (more.pairs ++ behind_filter p) more.bare (even_append more.pairs (behind_filter p)
-        (even_pairs adds more.pairs more.are_pairs) even)
+begins : (first more : List Word) → IsOne first → is_begun (first ++ more) ≡ true
+begins first more (inl one) = ap (λ (ws : List Word). is_begun (ws ++ more)) one.1 ∙ rw one.2 refl
+begins first more (inr two) =
+    let long : 2 ≤ length (two.0 ∷ two.1 ∷ more) = omega arith in
+    ap (λ (ws : List Word). is_begun (ws ++ more)) two.2 ∙ rw two.3 (le-leb 2 (length (two.0 ∷ two.1 ∷ more)) long)
+
+wide_right : (adds : Bool) (filter behind : List Word) → IsMixed adds filter behind → AreTwoByTwo behind
+    → has_search_count Wide adds (filter ++ behind) ≡ true
+wide_right adds filter behind is even =
+    let n : filter_length Wide adds (filter ++ behind) ≡ length filter = filter_counted Wide adds filter behind is in
+    let rest : drop (filter_length Wide adds (filter ++ behind)) (filter ++ behind) ≡ behind =
+    ap (λ (m : ℕ). drop m (filter ++ behind)) n ∙ drop_front filter behind in
+    let front : is_begun (filter ++ behind) ≡ true =
+    ap (λ (ws : List Word). is_begun (ws ++ behind)) is.whole ∙ ap is_begun (append_assoc is.first is.more behind)
+    ∙ begins is.first (is.more ++ behind) is.one in
+    and_from (is_begun (filter ++ behind)) (is_even (length (drop (filter_length Wide adds (filter ++ behind)) (filter ++ behind)))) front
+    (ap (λ (ws : List Word). is_even (length ws)) rest ∙ counts_even behind even)
+
+counts_right : (profile : Profile) (adds : Bool) (words : List Word) (p : Parts) → AreSearch profile adds words p
+    → has_search_count profile adds words ≡ true
+counts_right Named adds words p found =
+    ap named_search_count found.parted.whole
+    ∙ named_right adds p.filter (behind_filter p) found.parted.filter (even_parts p found.even)
+counts_right Wide adds words p found =
+    ap (has_search_count Wide adds) found.parted.whole
+    ∙ wide_right adds p.filter (behind_filter p) found.parted.filter (even_parts p found.even)
 
 not_true : (b : Bool) → not b ≡ true → b ≡ false
 not_true true h = absurd (cc)
@@ -101,90 +126,106 @@ not_false : (b : Bool) → not b ≡ false → b ≡ true
 not_false true h = refl
 not_false false h = absurd (cc)
 
-odd_behind : (word : Word) (behind : List Word) → begins_so opening word ≡ true → has_search_count (word ∷ behind) ≡ true
+odd_behind : (word : Word) (behind : List Word) → begins_so opening word ≡ true → named_search_count (word ∷ behind) ≡ true
     → AreTwoByTwo behind
 odd_behind word behind is count =
     let odd : not (is_even (length (word ∷ behind))) ≡ true = rw is at count in
     let even : not (is_even (length behind)) ≡ false = sym (one_more word behind) ∙ not_true _ odd in
     is_two_by_two behind (not_false (is_even (length behind)) even)
 
-pairs_behind : (tag value : Word) (words : List Word) → begins_so opening tag ≡ false → has_search_count (tag ∷ value ∷ words) ≡ true
+pairs_behind : (tag value : Word) (words : List Word) → begins_so opening tag ≡ false → named_search_count (tag ∷ value ∷ words) ≡ true
     → AreTwoByTwo words
 pairs_behind tag value words bare count =
     let all : (nat_le 2 (length (tag ∷ value ∷ words)) && is_even (length (tag ∷ value ∷ words))) ≡ true = rw bare at count in
     is_two_by_two words (sym (two_more tag value words) ∙ (and_parts _ _ all).1)
 
-is_search : (adds : Bool) (words : List Word) → has_search_count words ≡ true → AreSearch adds words (parts_of adds words)
-is_search adds words count =
-    record {
-      parted = parted;
-      even = even_rest (parts_of adds words) (by_filter parted.filter (sym (ap has_search_count parted.whole) ∙ count));
-    }
-  where
-    parted : ArePartedSo adds words (parts_of adds words)
-    parted = parted_so adds words count
+named_even : (adds : Bool) (filter behind : List Word) → IsExpression filter ⊎ IsPairs adds filter behind
+    → named_search_count (filter ++ behind) ≡ true → AreTwoByTwo behind
+named_even adds filter behind (inl one) all =
+    odd_behind one.0 behind one.2 (ap (λ (ws : List Word). named_search_count (ws ++ behind)) (sym one.1) ∙ all)
+named_even adds filter behind (inr more) all = even_behind more.pairs behind (even_pairs adds more.pairs more.are_pairs)
+    (pairs_behind more.tag more.value (more.pairs ++ behind) more.bare
+    (ap (λ (ws : List Word). named_search_count (ws ++ behind)) (sym more.whole) ∙ all))
 
-    by_filter : IsExpression (parts_of adds words).filter ⊎ IsPairs adds (parts_of adds words).filter (behind_filter (parts_of adds words))
-        → has_search_count ((parts_of adds words).filter ++ behind_filter (parts_of adds words)) ≡ true
-        → AreTwoByTwo (behind_filter (parts_of adds words))
-    by_filter (inl one) all = odd_behind one.0 (behind_filter (parts_of adds words)) one.2
-        (ap (λ (ws : List Word). has_search_count (ws ++ behind_filter (parts_of adds words))) (sym one.1) ∙ all)
-    by_filter (inr more) all = even_behind more.pairs (behind_filter (parts_of adds words)) (even_pairs adds more.pairs more.are_pairs)
-        (pairs_behind more.tag more.value (more.pairs ++ behind_filter (parts_of adds words)) more.bare (ap (λ (ws : List Word).
-        has_search_count (ws ++ behind_filter (parts_of adds words))) (sym more.whole) ∙ all))
+-- the words behind the filter come two by two
+all_even : (profile : Profile) (adds : Bool) (words : List Word) → has_search_count profile adds words ≡ true
+    → AreTwoByTwo (behind_filter (parts_of profile adds words))
+all_even Named adds words count =
+    let p = parts_of Named adds words in
+    let parted : ArePartedSo Named adds words p = parted_so Named adds words count in
+    named_even adds p.filter (behind_filter p) parted.filter (sym (ap named_search_count parted.whole) ∙ count)
+all_even Wide adds words count =
+    let n = filter_length Wide adds words in
+    let even : AreTwoByTwo (drop n words) =
+    is_two_by_two (drop n words) (and_parts (is_begun words) (is_even (length (drop n words))) count).1 in
+    subst AreTwoByTwo (behind_is adds (take n words) (drop n words)) even
+
+is_search : (profile : Profile) (adds : Bool) (words : List Word) → has_search_count profile adds words ≡ true
+    → AreSearch profile adds words (parts_of profile adds words)
+is_search profile adds words count =
+    record {
+      parted = parted_so profile adds words count;
+      even = even_rest (parts_of profile adds words) (all_even profile adds words count);
+    }
 
 -- ---- one answer
 
-wrong_count : (profile : Profile) (case : Case) (words : List Word) → has_search_count words ≡ false
+wrong_count : (profile : Profile) (case : Case) (words : List Word) → has_search_count profile false words ≡ false
     → find_of profile case words ≡ Err WrongCount
 unfolding find_of
 wrong_count profile case words h = rw h refl
 
-wrong_count_to_add : (profile : Profile) (case : Case) (words : List Word) → has_search_count words ≡ false
+wrong_count_to_add : (profile : Profile) (case : Case) (words : List Word) → has_search_count profile true words ≡ false
     → find_add_of profile case words ≡ Err WrongCount
 unfolding find_add_of
 wrong_count_to_add profile case words h = rw h refl
 
 -- it says what the parts say, and tells a wrong count
-abbrev Says : Bool → (Parts → Result FindingCommand CommandRefusal) → (List Word → Result FindingCommand CommandRefusal) → Type 0
-Says adds says read = ((words : List Word) (p : Parts) → has_search_count words ≡ true → ArePartedSo adds words p → read words ≡ says p)
-    × ((words : List Word) → has_search_count words ≡ false → read words ≡ Err WrongCount)
+abbrev Says :
+    Profile → Bool → (Parts → Result FindingCommand CommandRefusal) → (List Word → Result FindingCommand CommandRefusal) → Type 0
+Says profile adds says read =
+    ((words : List Word) (p : Parts) → has_search_count profile adds words ≡ true → ArePartedSo profile adds words p → read words ≡ says p)
+    × ((words : List Word) → has_search_count profile adds words ≡ false → read words ≡ Err WrongCount)
 
-is_answer : (adds : Bool) (says : Parts → Result FindingCommand CommandRefusal) (read : List Word → Result FindingCommand CommandRefusal)
-    → Says adds says read → (words : List Word) (answer : Result FindingCommand CommandRefusal) → read words ≡ answer
-    → IsAnswer adds says words answer
-is_answer adds says read exact words answer is = by_count (has_search_count words) refl
+is_answer : (profile : Profile) (adds : Bool) (says : Parts → Result FindingCommand CommandRefusal)
+    (read : List Word → Result FindingCommand CommandRefusal)
+    → Says profile adds says read → (words : List Word) (answer : Result FindingCommand CommandRefusal) → read words ≡ answer
+    → IsAnswer profile adds says words answer
+is_answer profile adds says read exact words answer is = by_count (has_search_count profile adds words) refl
   where
-    by_count : (b : Bool) → has_search_count words ≡ b → IsAnswer adds says words answer
+    by_count : (b : Bool) → has_search_count profile adds words ≡ b → IsAnswer profile adds says words answer
     by_count true h =
-        let found = is_search adds words h in
-        inl (parts_of adds words, found, sym is ∙ exact.0 words (parts_of adds words) h found.parted)
+        let found = is_search profile adds words h in
+        inl (parts_of profile adds words, found, sym is ∙ exact.0 words (parts_of profile adds words) h found.parted)
     by_count false h = inr (
-      (λ p found. let right : has_search_count words ≡ true = counts_right adds words p found in absurd (cc)),
+      (λ p found. let right : has_search_count profile adds words ≡ true = counts_right profile adds words p found in absurd (cc)),
       sym is ∙ exact.1 words h,
     )
 
-only_answer : (adds : Bool) (says : Parts → Result FindingCommand CommandRefusal) (read : List Word → Result FindingCommand CommandRefusal)
-    → Says adds says read → (words : List Word) (answer : Result FindingCommand CommandRefusal) → IsAnswer adds says words answer
-    → read words ≡ answer
-only_answer adds says read exact words answer (inl one) =
-    exact.0 words one.0 (counts_right adds words one.0 one.1) one.1.parted ∙ sym one.2
-only_answer adds says read exact words answer (inr none) = by_count (has_search_count words) refl
+only_answer : (profile : Profile) (adds : Bool) (says : Parts → Result FindingCommand CommandRefusal)
+    (read : List Word → Result FindingCommand CommandRefusal)
+    → Says profile adds says read → (words : List Word) (answer : Result FindingCommand CommandRefusal)
+    → IsAnswer profile adds says words answer → read words ≡ answer
+only_answer profile adds says read exact words answer (inl one) =
+    exact.0 words one.0 (counts_right profile adds words one.0 one.1) one.1.parted ∙ sym one.2
+only_answer profile adds says read exact words answer (inr none) = by_count (has_search_count profile adds words) refl
   where
-    by_count : (b : Bool) → has_search_count words ≡ b → read words ≡ answer
-    by_count true h = absurd (none.0 (parts_of adds words) (is_search adds words h))
+    by_count : (b : Bool) → has_search_count profile adds words ≡ b → read words ≡ answer
+    by_count true h = absurd (none.0 (parts_of profile adds words) (is_search profile adds words h))
     by_count false h = exact.1 words h ∙ sym none.1
 
 pub found_so : (profile : Profile) (case : Case) (words : List Word) (answer : Result FindingCommand CommandRefusal)
-    → (find_of profile case words ≡ answer) ↔ IsAnswer false (found_by profile case) words answer
+    → (find_of profile case words ≡ answer) ↔ IsAnswer profile false (found_by profile case) words answer
 found_so profile case words answer = (
-  is_answer false (found_by profile case) (find_of profile case) (find_is profile case, wrong_count profile case) words answer,
-  only_answer false (found_by profile case) (find_of profile case) (find_is profile case, wrong_count profile case) words answer,
+  is_answer profile false (found_by profile case) (find_of profile case) (find_is profile case, wrong_count profile case) words answer,
+  only_answer profile false (found_by profile case) (find_of profile case) (find_is profile case, wrong_count profile case) words answer,
 )
 
 pub added_so : (profile : Profile) (case : Case) (words : List Word) (answer : Result FindingCommand CommandRefusal)
-    → (find_add_of profile case words ≡ answer) ↔ IsAnswer true (added_by profile case) words answer
+    → (find_add_of profile case words ≡ answer) ↔ IsAnswer profile true (added_by profile case) words answer
 added_so profile case words answer = (
-  is_answer true (added_by profile case) (find_add_of profile case) (add_is profile case, wrong_count_to_add profile case) words answer,
-  only_answer true (added_by profile case) (find_add_of profile case) (add_is profile case, wrong_count_to_add profile case) words answer,
+  is_answer profile true (added_by profile case) (find_add_of profile case) (add_is profile case, wrong_count_to_add profile case) words
+      answer,
+  only_answer profile true (added_by profile case) (find_add_of profile case) (add_is profile case, wrong_count_to_add profile case) words
+      answer,
 )

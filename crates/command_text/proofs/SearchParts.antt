@@ -1,11 +1,13 @@
 -- The words of a search part in one way, and what is read of them is what these parts say.
-use Rattle.std.proofs.Common.{◌≡◌, ◌⊎◌, inl, inr, ℕ, suc, ◌+◌, ◌-◌, Bool, true, false, cond, List, [], ◌∷◌, ◌++◌, length}
+use Rattle.std.proofs.Common.{◌≡◌, ◌⊎◌, inl, inr, ℕ, zero, suc, ◌||◌, ◌+◌, ◌-◌, Bool, true, false, cond, List, [], ◌∷◌, ◌++◌, length}
 use Rattle.std.proofs.Common.{take, drop, Option, Some, None, Result, Ok, Err, refl, sym, ap, ◌∙◌, subst, arith, length-append}
 use Rattle.std.specs.Prelude.{codes}
 use Rattle.std.specs.Str.{bytes_eq}
 use Rattle.std.proofs.lemmas.List.{take-append-drop}
+use Rattle.std.proofs.lemmas.Bool.{and_parts}
 use Rattle.std.proofs.lemmas.Slice.Eq.{bytes_eq-Decides}
 use Rattle.profile.specs.declared.profile.Profile.{Profile}
+use Rattle.profile.specs.declared.profile.Profile.TheVariants.{Named, Wide}
 use Rattle.filter_expr.specs.declared.case.Case.{Case}
 use Rattle.filter_expr.specs.declared.order.SortOrder.{SortOrder}
 use Rattle.filter_expr.specs.Parts.{opening, begins_so}
@@ -19,14 +21,17 @@ use Rattle.command_text.specs.declared.range.Window.{Window}
 use Rattle.command_text.specs.declared.refusal.CommandRefusal.{CommandRefusal}
 use Rattle.command_text.specs.Arguments.{target_of, window_of}
 use Rattle.command_text.specs.Counts.{◌>>=◌, Word, argument, optional}
-use Rattle.command_text.specs.Finding.{has_search_count, begins_part, pairs_length, filter_length, value_behind, Part}
+use Rattle.command_text.specs.Finding.{is_even, is_begun, named_search_count, has_search_count, begins_part, ends_filter, pairs_length}
+use Rattle.command_text.specs.Finding.{mixed_length, filter_length, value_behind, Part}
 use Rattle.command_text.specs.Finding.{second_place, sort_part, window_part, position_part, nothing_left, search_parts}
 use Rattle.command_text.specs.Finding.{find_of, find_add_of}
 use Rattle.command_text.specs.NameArguments.{told, filter_argument}
 use Rattle.command_text.specs.Search.{Parts, words_of, behind_window, behind_sort, behind_filter, IsNext, ArePairs, EndsPairs}
-use Rattle.command_text.specs.Search.{IsExpression, IsPairs, IsPosition, ArePartedSo, before_window, before_position, before_rest}
+use Rattle.command_text.specs.Search.{IsExpression, IsPairs, IsOne, AreMixed, EndsMixed, IsMixed, IsFilter, IsPosition, ArePartedSo}
+use Rattle.command_text.specs.Search.{before_window, before_position, before_rest}
 use Rattle.command_text.specs.Search.{sort_value, search_of}
 use Rattle.command_text.specs.Search.{no_rest, found_by, added_by}
+use Rattle.command_text.proofs.Mixed.{expression_counted, pair_counted}
 
 -- ---- lists
 
@@ -34,7 +39,7 @@ take_front : (front behind : List Word) → take (length front) (front ++ behind
 take_front [] behind = refl
 take_front (w ∷ front) behind = ap (λ (ws : List Word). w ∷ ws) (take_front front behind)
 
-drop_front : (front behind : List Word) → drop (length front) (front ++ behind) ≡ behind
+pub drop_front : (front behind : List Word) → drop (length front) (front ++ behind) ≡ behind
 drop_front [] behind = refl
 drop_front (w ∷ front) behind = drop_front front behind
 
@@ -54,15 +59,62 @@ pairs_counted adds (word ∷ []) behind are ends = absurd are
 pairs_counted adds (tag ∷ value ∷ pairs) behind are ends =
     rw (are.0, pairs_counted adds pairs behind are.1 ends) (let h : 2 + length pairs ≡ length (tag ∷ value ∷ pairs) = omega arith in h)
 
-filter_counted : (adds : Bool) (filter behind : List Word) → IsExpression filter ⊎ IsPairs adds filter behind
-    → filter_length adds (filter ++ behind) ≡ length filter
-filter_counted adds filter behind (inl one) =
-    subst (λ (ws : List Word). filter_length adds (ws ++ behind) ≡ length ws) (sym one.1) (rw one.2 refl)
-filter_counted adds filter behind (inr more) =
+named_counted : (adds : Bool) (filter behind : List Word) → IsExpression filter ⊎ IsPairs adds filter behind
+    → filter_length Named adds (filter ++ behind) ≡ length filter
+named_counted adds filter behind (inl one) =
+    subst (λ (ws : List Word). filter_length Named adds (ws ++ behind) ≡ length ws) (sym one.1) (rw one.2 refl)
+named_counted adds filter behind (inr more) =
     let counted : pairs_length adds (more.pairs ++ behind) ≡ length more.pairs =
     pairs_counted adds more.pairs behind more.are_pairs more.ends in
     let all : 2 + length more.pairs ≡ length (more.tag ∷ more.value ∷ more.pairs) = omega arith in
-    subst (λ (ws : List Word). filter_length adds (ws ++ behind) ≡ length ws) (sym more.whole) (rw (more.bare, counted) all)
+    subst (λ (ws : List Word). filter_length Named adds (ws ++ behind) ≡ length ws) (sym more.whole) (rw (more.bare, counted) all)
+
+-- expressions and pairs in any order
+mixed_end : (adds : Bool) (behind : List Word) → EndsMixed adds behind → mixed_length (Some adds) behind ≡ 0
+unfolding mixed_length
+mixed_end adds [] ends = refl
+mixed_end adds (word ∷ []) ends = rw ends refl
+mixed_end adds (name ∷ value ∷ words) ends = rw (ends.0, ends.1) refl
+
+mixed_counted : (adds : Bool) (more behind : List Word) → AreMixed adds more → EndsMixed adds behind
+    → mixed_length (Some adds) (more ++ behind) ≡ length more
+mixed_counted adds [] behind are ends = mixed_end adds behind ends
+mixed_counted adds (word ∷ []) behind are ends =
+    let counted : mixed_length (Some adds) (word ∷ behind) ≡ 1 + mixed_length (Some adds) behind =
+    expression_counted (Some adds) word behind are in
+    let none : mixed_length (Some adds) behind ≡ 0 = mixed_end adds behind ends in
+    omega arith
+mixed_counted adds (word ∷ other ∷ words) behind (inl one) ends =
+    let counted : mixed_length (Some adds) (word ∷ other ∷ (words ++ behind)) ≡ 1 + mixed_length (Some adds) (other ∷ (words ++ behind)) =
+    expression_counted (Some adds) word (other ∷ (words ++ behind)) one.0 in
+    let rest : mixed_length (Some adds) (other ∷ (words ++ behind)) ≡ length (other ∷ words) =
+    mixed_counted adds (other ∷ words) behind one.1 ends in
+    omega arith
+mixed_counted adds (word ∷ other ∷ words) behind (inr two) ends =
+    let counted : mixed_length (Some adds) (word ∷ other ∷ (words ++ behind)) ≡ 2 + mixed_length (Some adds) (words ++ behind) =
+    pair_counted (Some adds) word other (words ++ behind) two.0 two.1 in
+    let rest : mixed_length (Some adds) (words ++ behind) ≡ length words = mixed_counted adds words behind two.2 ends in
+    omega arith
+
+first_counted : (adds : Bool) (first more behind : List Word) → IsOne first → AreMixed adds more → EndsMixed adds behind
+    → filter_length Wide adds ((first ++ more) ++ behind) ≡ length (first ++ more)
+first_counted adds first more behind (inl one) are ends =
+    let counted : mixed_length (Some adds) (more ++ behind) ≡ length more = mixed_counted adds more behind are ends in
+    let all : 1 + length more ≡ length (one.0 ∷ more) = omega arith in
+    subst (λ (ws : List Word). filter_length Wide adds ((ws ++ more) ++ behind) ≡ length (ws ++ more)) (sym one.1)
+    (rw (one.2, counted) all)
+first_counted adds first more behind (inr two) are ends =
+    let counted : mixed_length (Some adds) (more ++ behind) ≡ length more = mixed_counted adds more behind are ends in
+    let all : 2 + length more ≡ length (two.0 ∷ two.1 ∷ more) = omega arith in
+    subst (λ (ws : List Word). filter_length Wide adds ((ws ++ more) ++ behind) ≡ length (ws ++ more)) (sym two.2)
+    (rw (two.3, counted) all)
+
+pub filter_counted : (profile : Profile) (adds : Bool) (filter behind : List Word) → IsFilter profile adds filter behind
+    → filter_length profile adds (filter ++ behind) ≡ length filter
+filter_counted Named adds filter behind is = named_counted adds filter behind is
+filter_counted Wide adds filter behind is =
+    subst (λ (ws : List Word). filter_length Wide adds (ws ++ behind) ≡ length ws) (sym is.whole)
+    (first_counted adds is.first is.more behind is.one is.are_mixed is.ends)
 
 -- ---- one part
 
@@ -157,15 +209,15 @@ joined case (Ok f) (Err e) window next middle behind is = refl
 joined case (Ok f) (Ok s) (Err e) next middle behind is = rw is refl
 joined case (Ok f) (Ok s) (Ok w) next middle behind is = rw is refl
 
-search_is : (profile : Profile) (adds : Bool) (case : Case) (words : List Word) (p : Parts) → ArePartedSo adds words p
+search_is : (profile : Profile) (adds : Bool) (case : Case) (words : List Word) (p : Parts) → ArePartedSo profile adds words p
     → search_parts profile adds case words ≡ with_rest (search_of profile case p) (behind_window p)
 unfolding search_parts
 search_is profile adds case words p parted =
-    let counted : filter_length adds words ≡ length p.filter =
-    ap (filter_length adds) parted.whole ∙ filter_counted adds p.filter (behind_filter p) parted.filter in
-    let front : take (filter_length adds words) words ≡ p.filter =
+    let counted : filter_length profile adds words ≡ length p.filter =
+    ap (filter_length profile adds) parted.whole ∙ filter_counted profile adds p.filter (behind_filter p) parted.filter in
+    let front : take (filter_length profile adds words) words ≡ p.filter =
     ap (λ n. take n words) counted ∙ ap (take (length p.filter)) parted.whole ∙ take_front p.filter (behind_filter p) in
-    let back : drop (filter_length adds words) words ≡ behind_filter p =
+    let back : drop (filter_length profile adds words) words ≡ behind_filter p =
     ap (λ n. drop n words) counted ∙ ap (drop (length p.filter)) parted.whole ∙ drop_front p.filter (behind_filter p) in
     let long : length words ≡ before_window p + length (behind_sort p) =
     omega (
@@ -180,9 +232,9 @@ search_is profile adds case words p parted =
     (window_is (length words) (before_window p) p.window (behind_window p) parted.window long))
 
 -- how many words stand up to the last part
-all_counted : (adds : Bool) (words : List Word) (p : Parts) → ArePartedSo adds words p
+all_counted : (profile : Profile) (adds : Bool) (words : List Word) (p : Parts) → ArePartedSo profile adds words p
     → length words ≡ before_position p + length (behind_window p)
-all_counted adds words p parted =
+all_counted profile adds words p parted =
     omega (
       arith,
       ap length parted.whole,
@@ -199,8 +251,8 @@ found_end : (search : Result Search CommandRefusal) (total : ℕ) (p : Parts) �
 found_end (Err e) total p long = refl
 found_end (Ok s) total p long = rest_is total (before_rest p) p.rest (commands.Find s) long
 
-pub find_is : (profile : Profile) (case : Case) (words : List Word) (p : Parts) → has_search_count words ≡ true → ArePartedSo false words p
-    → find_of profile case words ≡ found_by profile case p
+pub find_is : (profile : Profile) (case : Case) (words : List Word) (p : Parts) → has_search_count profile false words ≡ true
+    → ArePartedSo profile false words p → find_of profile case words ≡ found_by profile case p
 unfolding find_of
 find_is profile case words p counts parted =
     let none : p.position ≡ None = parted.position in
@@ -208,7 +260,7 @@ find_is profile case words p counts parted =
     let nothing : length (words_of (codes "position") p.position) ≡ 0 =
     ap (λ (o : Option Word). length (words_of (codes "position") o)) none in
     let long : length words ≡ before_rest p + length p.rest =
-    omega (arith, all_counted false words p parted, ap length last, nothing) in
+    omega (arith, all_counted profile false words p parted, ap length last, nothing) in
     rw (counts, search_is profile false case words p parted, last) (found_end (search_of profile case p) (length words) p long)
 
 abbrev added_after : ℕ → (List Word → Part Target) → Result (Search × List Word) CommandRefusal → Result FindingCommand CommandRefusal
@@ -222,11 +274,11 @@ added_end (Err e) to total p next is long = refl
 added_end (Ok s) (Err e) total p next is long = rw is refl
 added_end (Ok s) (Ok t) total p next is long = rw is (rest_is total (before_rest p) p.rest (commands.Add s t) long)
 
-pub add_is : (profile : Profile) (case : Case) (words : List Word) (p : Parts) → has_search_count words ≡ true → ArePartedSo true words p
-    → find_add_of profile case words ≡ added_by profile case p
+pub add_is : (profile : Profile) (case : Case) (words : List Word) (p : Parts) → has_search_count profile true words ≡ true
+    → ArePartedSo profile true words p → find_add_of profile case words ≡ added_by profile case p
 unfolding find_add_of
 add_is profile case words p counts parted =
-    let long : length words ≡ before_position p + length (behind_window p) = all_counted true words p parted in
+    let long : length words ≡ before_position p + length (behind_window p) = all_counted profile true words p parted in
     let whole : length words ≡ before_rest p + length p.rest =
     omega (arith, long, length-append (words_of (codes "position") p.position) p.rest) in
     rw (counts, search_is profile true case words p parted)
@@ -303,21 +355,109 @@ pairs_part adds (tag ∷ value ∷ words) = by_cases (begins_part adds tag) refl
         let two : 2 + pairs_length adds words ≡ suc (suc (pairs_length adds words)) = omega arith in
         rw two ((h, rest.0), rest.1)
 
--- the filter's words and what is behind them
-abbrev IsFilterOf : Bool → ℕ → List Word → Type 0
-IsFilterOf adds n words = IsExpression (take n words) ⊎ IsPairs adds (take n words) (drop n words)
+-- expressions and pairs, and what ends them
+mixed_part : (adds : Bool) (words : List Word)
+    → AreMixed adds (take (mixed_length (Some adds) words) words) × EndsMixed adds (drop (mixed_length (Some adds) words) words)
+unfolding mixed_length
+mixed_part adds [] = (tt, tt)
+mixed_part adds (word ∷ []) = by_cases (begins_so opening word) refl
+  where
+    by_cases : (b : Bool) → begins_so opening word ≡ b
+        → AreMixed adds (take (cond b 1 0) (word ∷ [])) × EndsMixed adds (drop (cond b 1 0) (word ∷ []))
+    by_cases true h = (h, tt)
+    by_cases false h = (tt, h)
+mixed_part adds (word ∷ other ∷ words) =
+    by_cases (begins_so opening word) refl (begins_part adds word) refl (mixed_part adds (other ∷ words)) (mixed_part adds words)
+  where
+    longer : (n : ℕ) → begins_so opening word ≡ true → AreMixed adds (take n (other ∷ words))
+        → AreMixed adds (word ∷ take n (other ∷ words))
+    longer zero h are = h
+    longer (suc n) h are = inl (h, are)
 
-filter_parted : (adds : Bool) (words : List Word) → has_search_count words ≡ true → IsFilterOf adds (filter_length adds words) words
-filter_parted adds [] counts = absurd (cc)
-filter_parted adds (word ∷ []) counts = by_cases (begins_so opening word) refl counts
+    by_cases : (b : Bool) → begins_so opening word ≡ b → (e : Bool) → begins_part adds word ≡ e
+        → AreMixed adds (take (mixed_length (Some adds) (other ∷ words)) (other ∷ words))
+        × EndsMixed adds (drop (mixed_length (Some adds) (other ∷ words)) (other ∷ words))
+        → AreMixed adds (take (mixed_length (Some adds) words) words) × EndsMixed adds (drop (mixed_length (Some adds) words) words)
+        → AreMixed adds (take (cond b (1 + mixed_length (Some adds) (other ∷ words)) (cond e 0 (2 + mixed_length (Some adds) words)))
+        (word ∷ other ∷ words))
+        × EndsMixed adds (drop (cond b (1 + mixed_length (Some adds) (other ∷ words)) (cond e 0 (2 + mixed_length (Some adds) words)))
+        (word ∷ other ∷ words))
+    by_cases true h e k rest behind =
+        let n = mixed_length (Some adds) (other ∷ words) in
+        let one : 1 + n ≡ suc n = omega arith in
+        rw one (longer n h rest.0, rest.1)
+    by_cases false h true k rest behind = (tt, (h, k))
+    by_cases false h false k rest behind =
+        let two : 2 + mixed_length (Some adds) words ≡ suc (suc (mixed_length (Some adds) words)) = omega arith in
+        rw two (inr (h, k, behind.0), behind.1)
+
+-- the filter's words and what is behind them
+abbrev IsNamedFilter : Bool → ℕ → List Word → Type 0
+IsNamedFilter adds n words = IsExpression (take n words) ⊎ IsPairs adds (take n words) (drop n words)
+
+abbrev IsWideFilter : Bool → ℕ → List Word → Type 0
+IsWideFilter adds n words = IsMixed adds (take n words) (drop n words)
+
+begun_parted : (adds : Bool) (words : List Word) → is_begun words ≡ true → IsWideFilter adds (filter_length Wide adds words) words
+begun_parted adds [] begun = absurd (cc)
+begun_parted adds (word ∷ []) begun = by_cases (begins_so opening word) refl begun
+  where
+    by_cases : (b : Bool) → begins_so opening word ≡ b → (b || false) ≡ true
+        → IsWideFilter adds (cond b 1 2 + mixed_length (Some adds) (drop (cond b 1 2) (word ∷ []))) (word ∷ [])
+    by_cases true h begun =
+        let n = mixed_length (Some adds) [] in
+        let one : 1 + n ≡ suc n = omega arith in
+        let parts = mixed_part adds [] in
+        rw one (record {
+          first = word ∷ [];
+          more = take n [];
+          whole = refl;
+          one = inl (word, refl, h);
+          are_mixed = parts.0;
+          ends = parts.1;
+        })
+    by_cases false h begun = absurd (cc)
+begun_parted adds (tag ∷ value ∷ words) begun = by_cases (begins_so opening tag) refl
+  where
+    by_cases : (b : Bool) → begins_so opening tag ≡ b
+        → IsWideFilter adds (cond b 1 2 + mixed_length (Some adds) (drop (cond b 1 2) (tag ∷ value ∷ words))) (tag ∷ value ∷ words)
+    by_cases true h =
+        let n = mixed_length (Some adds) (value ∷ words) in
+        let one : 1 + n ≡ suc n = omega arith in
+        let parts = mixed_part adds (value ∷ words) in
+        rw one (record {
+          first = tag ∷ [];
+          more = take n (value ∷ words);
+          whole = refl;
+          one = inl (tag, refl, h);
+          are_mixed = parts.0;
+          ends = parts.1;
+        })
+    by_cases false h =
+        let n = mixed_length (Some adds) words in
+        let two : 2 + n ≡ suc (suc n) = omega arith in
+        let parts = mixed_part adds words in
+        rw two (record {
+          first = tag ∷ value ∷ [];
+          more = take n words;
+          whole = refl;
+          one = inr (tag, value, refl, h);
+          are_mixed = parts.0;
+          ends = parts.1;
+        })
+
+named_parted : (adds : Bool) (words : List Word) → named_search_count words ≡ true
+    → IsNamedFilter adds (filter_length Named adds words) words
+named_parted adds [] counts = absurd (cc)
+named_parted adds (word ∷ []) counts = by_cases (begins_so opening word) refl counts
   where
     by_cases : (b : Bool) → begins_so opening word ≡ b → cond b true false ≡ true
-        → IsFilterOf adds (cond b 1 (2 + pairs_length adds [])) (word ∷ [])
+        → IsNamedFilter adds (cond b 1 (2 + pairs_length adds [])) (word ∷ [])
     by_cases true h counts = inl (word, refl, h)
     by_cases false h counts = absurd (cc)
-filter_parted adds (tag ∷ value ∷ words) counts = by_cases (begins_so opening tag) refl
+named_parted adds (tag ∷ value ∷ words) counts = by_cases (begins_so opening tag) refl
   where
-    by_cases : (b : Bool) → begins_so opening tag ≡ b → IsFilterOf adds (cond b 1 (2 + pairs_length adds words)) (tag ∷ value ∷ words)
+    by_cases : (b : Bool) → begins_so opening tag ≡ b → IsNamedFilter adds (cond b 1 (2 + pairs_length adds words)) (tag ∷ value ∷ words)
     by_cases true h = inl (tag, refl, h)
     by_cases false h =
         let two : 2 + pairs_length adds words ≡ suc (suc (pairs_length adds words)) = omega arith in
@@ -332,6 +472,12 @@ filter_parted adds (tag ∷ value ∷ words) counts = by_cases (begins_so openin
           ends = parts.1;
         }))
 
+filter_parted : (profile : Profile) (adds : Bool) (words : List Word) → has_search_count profile adds words ≡ true
+    → IsFilter profile adds (take (filter_length profile adds words) words) (drop (filter_length profile adds words) words)
+filter_parted Named adds words counts = named_parted adds words counts
+filter_parted Wide adds words counts =
+    begun_parted adds words (and_parts (is_begun words) (is_even (length (drop (filter_length Wide adds words) words))) counts).0
+
 abbrev parts_from : Bool → List Word → List Word → Parts
 parts_from adds filter words =
     record {
@@ -342,26 +488,27 @@ parts_from adds filter words =
       rest = after (position_of adds (windowed words)) (windowed words);
     }
 
-abbrev pub parts_of : Bool → List Word → Parts
-parts_of adds words = parts_from adds (take (filter_length adds words) words) (drop (filter_length adds words) words)
+abbrev pub parts_of : Profile → Bool → List Word → Parts
+parts_of profile adds words =
+    parts_from adds (take (filter_length profile adds words) words) (drop (filter_length profile adds words) words)
 
 -- the words behind the filter are those of the parts
-behind_is : (adds : Bool) (filter words : List Word) → words ≡ behind_filter (parts_from adds filter words)
+pub behind_is : (adds : Bool) (filter words : List Word) → words ≡ behind_filter (parts_from adds filter words)
 behind_is adds filter words =
     split_part (codes "sort") words
     ∙ ap (λ (ws : List Word). words_of (codes "sort") (value_behind (codes "sort") words) ++ ws) (split_part (codes "window") (sorted words)
     ∙ ap (λ (ws : List Word). words_of (codes "window") (value_behind (codes "window") (sorted words)) ++ ws) (split_position adds
     (windowed words)))
 
-pub parted_so : (adds : Bool) (words : List Word) → has_search_count words ≡ true → ArePartedSo adds words (parts_of adds words)
-parted_so adds words counts =
-    let n = filter_length adds words in
-    let filtered = drop (filter_length adds words) words in
-    let is : filtered ≡ behind_filter (parts_of adds words) = behind_is adds (take n words) filtered in
+pub parted_so : (profile : Profile) (adds : Bool) (words : List Word) → has_search_count profile adds words ≡ true
+    → ArePartedSo profile adds words (parts_of profile adds words)
+parted_so profile adds words counts =
+    let n = filter_length profile adds words in
+    let filtered = drop (filter_length profile adds words) words in
+    let is : filtered ≡ behind_filter (parts_of profile adds words) = behind_is adds (take n words) filtered in
     record {
       whole = sym (take-append-drop n words) ∙ ap (λ (ws : List Word). take n words ++ ws) is;
-      filter = subst (λ (ws : List Word). IsExpression (take n words) ⊎ IsPairs adds (take n words) ws) is
-          (filter_parted adds words counts);
+      filter = subst (IsFilter profile adds (take n words)) is (filter_parted profile adds words counts);
       sort = subst (IsNext (codes "sort") (value_behind (codes "sort") filtered)) (split_part (codes "window") (sorted filtered)
           ∙ ap (λ (ws : List Word). words_of (codes "window") (value_behind (codes "window") (sorted filtered)) ++ ws) (split_position adds
           (windowed filtered))) (next_part (codes "sort") filtered);
@@ -375,8 +522,9 @@ position_once : (adds : Bool) (given : Option Word) (rest : List Word) → IsPos
 position_once true given rest next = value_is (codes "position") given rest next
 position_once false given rest none = sym none
 
-from_parts : (adds : Bool) (words : List Word) (p : Parts) → ArePartedSo adds words p → parts_from adds p.filter (behind_filter p) ≡ p
-from_parts adds words p parted =
+from_parts : (profile : Profile) (adds : Bool) (words : List Word) (p : Parts) → ArePartedSo profile adds words p
+    → parts_from adds p.filter (behind_filter p) ≡ p
+from_parts profile adds words p parted =
     let sort : value_behind (codes "sort") (behind_filter p) ≡ p.sort = value_is (codes "sort") p.sort (behind_sort p) parted.sort in
     let window : value_behind (codes "window") (behind_sort p) ≡ p.window =
     value_is (codes "window") p.window (behind_window p) parted.window in
@@ -390,13 +538,14 @@ from_parts adds words p parted =
       after_is (codes "position") p.position p.rest,
     ) refl
 
-pub parted_once : (adds : Bool) (words : List Word) (p : Parts) → ArePartedSo adds words p → parts_of adds words ≡ p
-parted_once adds words p parted =
-    let counted : filter_length adds words ≡ length p.filter =
-    ap (filter_length adds) parted.whole ∙ filter_counted adds p.filter (behind_filter p) parted.filter in
-    let front : take (filter_length adds words) words ≡ p.filter =
+pub parted_once : (profile : Profile) (adds : Bool) (words : List Word) (p : Parts) → ArePartedSo profile adds words p
+    → parts_of profile adds words ≡ p
+parted_once profile adds words p parted =
+    let counted : filter_length profile adds words ≡ length p.filter =
+    ap (filter_length profile adds) parted.whole ∙ filter_counted profile adds p.filter (behind_filter p) parted.filter in
+    let front : take (filter_length profile adds words) words ≡ p.filter =
     ap (λ n. take n words) counted ∙ ap (take (length p.filter)) parted.whole ∙ take_front p.filter (behind_filter p) in
-    let back : drop (filter_length adds words) words ≡ behind_filter p =
+    let back : drop (filter_length profile adds words) words ≡ behind_filter p =
     ap (λ n. drop n words) counted ∙ ap (drop (length p.filter)) parted.whole ∙ drop_front p.filter (behind_filter p) in
-    ap (λ (ws : List Word). parts_from adds ws (drop (filter_length adds words) words)) front ∙ ap (parts_from adds p.filter) back
-    ∙ from_parts adds words p parted
+    ap (λ (ws : List Word). parts_from adds ws (drop (filter_length profile adds words) words)) front ∙ ap (parts_from adds p.filter) back
+    ∙ from_parts profile adds words p parted

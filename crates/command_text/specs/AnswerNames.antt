@@ -28,6 +28,14 @@ playlist_lines profile name = pair (codes "playlist") name ++ list_time profile
 abbrev pub sticker_line : List ℕ → List ℕ → List ℕ
 sticker_line name value = pair (codes "sticker") (name ++ (codes "=" ++ value))
 
+-- `channel: NAME`
+abbrev pub channel_line : List ℕ → List ℕ
+channel_line name = pair (codes "channel") name
+
+-- a message: its channel and its text
+abbrev pub message_lines : List ℕ → List ℕ → List ℕ
+message_lines channel text = channel_line channel ++ pair (codes "message") text
+
 -- a value of a tag
 abbrev pub value_line : Tag → List ℕ → List ℕ
 value_line tag value = pair (name_of tag) value

@@ -28,7 +28,6 @@ use Rattle.command_text.specs.Groups.{end_tag, last_word, most_ends, part_ends, 
 use Rattle.command_text.specs.Masks.{empty_mask, only_tag}
 use Rattle.command_text.specs.NameArguments.{told, playlist_name, filter_argument, tag_argument}
 
--- a filter is one word that is an expression, or pairs of a tag and a value
 abbrev pub is_expression : List Word → Bool
 is_expression [] = false
 is_expression (word ∷ words) = begins_so opening word
@@ -39,12 +38,13 @@ is_even n = n % 2 == 0
 abbrev pub are_pairs : List Word → Bool
 are_pairs words = nat_le 2 (length words) && is_even (length words)
 
--- the count of a filter that stands alone, and of one behind which parts of two words may stand
-abbrev pub has_filter_count : List Word → Bool
-has_filter_count words = if is_expression words then length words == 1 else are_pairs words
+-- In the named subset a filter is one word that is an expression, or pairs of a tag and a value: the count of one that stands alone, and of
+-- one behind which parts of two words may stand.
+abbrev pub named_filter_count : List Word → Bool
+named_filter_count words = if is_expression words then length words == 1 else are_pairs words
 
-abbrev pub has_search_count : List Word → Bool
-has_search_count words = if is_expression words then not (is_even (length words)) else are_pairs words
+abbrev pub named_search_count : List Word → Bool
+named_search_count words = if is_expression words then not (is_even (length words)) else are_pairs words
 
 -- the words that begin a part behind a filter
 abbrev pub begins_part : Bool → Word → Bool
@@ -57,9 +57,50 @@ pairs_length adds [] = 0
 pairs_length adds (word ∷ []) = 0
 pairs_length adds (tag ∷ value ∷ words) = if begins_part adds tag then 0 else 2 + pairs_length adds words
 
--- how many words the filter has: an expression one, and else the first pair and those behind it
-abbrev pub filter_length : Bool → List Word → ℕ
-filter_length adds words = if is_expression words then 1 else 2 + pairs_length adds (drop 2 words)
+-- the words that end a filter: none where nothing stands behind it
+abbrev pub ends_filter : Option Bool → Word → Bool
+ends_filter None word = false
+ends_filter (Some adds) word = begins_part adds word
+
+-- how many words the expression or the pair in front has; none where it ends the filter or has no value
+abbrev pub pair_length : Option Bool → Word → List Word → ℕ
+pair_length parts tag [] = 0
+pair_length parts tag (value ∷ words) = if ends_filter parts tag then 0 else 2
+
+abbrev pub next_length : Option Bool → List Word → ℕ
+next_length parts [] = 0
+next_length parts (word ∷ words) = if begins_so opening word then 1 else pair_length parts word words
+
+-- how many words expressions and pairs in any order have, up to a word that ends a filter or a tag without a value
+unfoldable pub mixed_length : Option Bool → List Word → ℕ
+mixed_length parts [] = 0
+mixed_length parts (word ∷ []) = if begins_so opening word then 1 else 0
+mixed_length parts (word ∷ other ∷ words) =
+    if begins_so opening word then 1 + mixed_length parts (other ∷ words)
+    else (if ends_filter parts word then 0 else 2 + mixed_length parts words)
+
+-- how many words the filter has: of the named subset an expression one, and else the first pair and those behind it; of the wide profile an
+-- expression or a pair, and those behind it in any order
+abbrev pub first_length : List Word → ℕ
+first_length words = if is_expression words then 1 else 2
+
+abbrev pub filter_length : Profile → Bool → List Word → ℕ
+filter_length Named adds words = if is_expression words then 1 else 2 + pairs_length adds (drop 2 words)
+filter_length Wide adds words = first_length words + mixed_length (Some adds) (drop (first_length words) words)
+
+-- an expression or a pair stands in front
+abbrev pub is_begun : List Word → Bool
+is_begun words = is_expression words || nat_le 2 (length words)
+
+-- the count of a filter that stands alone
+abbrev pub has_filter_count : Profile → List Word → Bool
+has_filter_count Named words = named_filter_count words
+has_filter_count Wide words = is_begun words && mixed_length None words == length words
+
+-- the count of one behind which parts of two words may stand
+abbrev pub has_search_count : Profile → Bool → List Word → Bool
+has_search_count Named adds words = named_search_count words
+has_search_count Wide adds words = is_begun words && is_even (length (drop (filter_length Wide adds words) words))
 
 -- what stands behind a name in front of these words
 abbrev pub value_behind : Word → List Word → Option Word
@@ -98,30 +139,30 @@ nothing_left total (word ∷ words) value = Err (BadArgument (total - length wor
 -- a filter, an order and a window, and the words behind them
 unfoldable pub search_parts : Profile → Bool → Case → List Word → Result (Search × List Word) CommandRefusal
 search_parts profile adds case words = do
-  filter ← filter_argument profile (take (filter_length adds words) words)
-  sort ← sort_part profile (drop (filter_length adds words) words)
+  filter ← filter_argument profile (take (filter_length profile adds words) words)
+  sort ← sort_part profile (drop (filter_length profile adds words) words)
   window ← window_part (length words) sort.1
   Ok (record { case = case; filter = filter; sort = sort.0; window = window.0 }, window.1)
 
 unfoldable pub find_of : Profile → Case → List Word → Result FindingCommand CommandRefusal
 find_of profile case words =
-    if not (has_search_count words) then Err WrongCount
+    if not (has_search_count profile false words) then Err WrongCount
     else (search_parts profile false case words >>= λ x. nothing_left (length words) x.1 (commands.Find x.0))
 
 unfoldable pub find_add_of : Profile → Case → List Word → Result FindingCommand CommandRefusal
 find_add_of profile case words =
-    if not (has_search_count words) then Err WrongCount
+    if not (has_search_count profile true words) then Err WrongCount
     else (search_parts profile true case words >>= λ x. position_part (length words) x.1
     >>= λ to. nothing_left (length words) to.1 (commands.Add x.0 to.0))
 
 -- a filter and nothing behind it
 unfoldable pub filter_alone : Profile → List Word → Result Tree CommandRefusal
-filter_alone profile words = if not (has_filter_count words) then Err WrongCount else filter_argument profile words
+filter_alone profile words = if not (has_filter_count profile words) then Err WrongCount else filter_argument profile words
 
 unfoldable pub add_to_playlist_of : Profile → List Word → Result FindingCommand CommandRefusal
 add_to_playlist_of profile [] = Err WrongCount
 add_to_playlist_of profile (name ∷ words) =
-    if not (has_filter_count words) then Err WrongCount
+    if not (has_filter_count profile words) then Err WrongCount
     else (playlist_name name >>= λ list. filter_argument profile words >>= λ filter. Ok (commands.AddToPlaylist list filter))
 
 -- in a tag's place of `list` the wide profile knows the songs' files by either name
@@ -147,7 +188,7 @@ listed_words profile name words = words
 unfoldable pub values_of : Profile → Word → List Word → Result FindingCommand CommandRefusal
 values_of profile name [] = tag_argument profile name >>= λ tag. Ok (commands.ListTag tag None)
 values_of profile name (word ∷ words) =
-    if not (has_filter_count (word ∷ words)) then Err WrongCount
+    if not (has_filter_count profile (word ∷ words)) then Err WrongCount
     else (tag_argument profile name >>= λ tag. filter_argument profile (word ∷ words) >>= λ filter. Ok (commands.ListTag tag (Some filter)))
 
 -- a filter and nothing behind it, if there is a word

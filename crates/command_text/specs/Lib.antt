@@ -6,6 +6,7 @@ pub mod NameArguments
 pub mod Stops
 pub mod Settings
 pub mod Masks
+pub mod Messages
 pub mod Groups
 pub mod Database
 pub mod Queue

@@ -1,13 +1,14 @@
 -- Which tags a client sees: a mask is a number whose bits are the tags of these numbers; and what `tagtypes` does to it.
 use Rattle.std.specs.Prelude.{ℕ, ◌-◌, ◌^◌, ◌==◌, Bool, List, [], ◌∷◌, Option, Some, option_and_then, Result, Ok, Err, codes}
 use Rattle.std.specs.Prelude.{bit_and, bit_or, if◌then◌else◌}
-use Rattle.std.specs.Int.{bit_at, bit_not, w32}
+use Rattle.std.specs.Int.{bit_at, bit_not, w64}
 use Rattle.std.specs.Option.{ok_or}
 use Rattle.std.specs.Str.{bytes_eq}
 use Rattle.profile.specs.declared.profile.Profile.TheVariants.{Wide}
 use Rattle.filter_expr.specs.Names.{tag_named}
 use Rattle.song_files.specs.Tag.{number_of}
 use Rattle.song_files.specs.declared.tag.Tag.{Tag}
+use Rattle.song_files.specs.declared.tag.TheConstants.{TAG_COUNT}
 use Rattle.command_text.specs.declared.refusal.CommandRefusal.{CommandRefusal}
 use Rattle.command_text.specs.declared.refusal.CommandRefusal.TheVariants.{Tags}
 use Rattle.command_text.specs.declared.refusal.TagsRefusal.TheVariants.{MissingArguments, TooManyArguments, UnknownSubCommand}
@@ -25,10 +26,10 @@ empty_mask = tag_mask 0
 
 -- what a client sees that has not asked for less
 abbrev pub all_in_mask : TagMask
-all_in_mask = tag_mask (2 ^ 31 - 1)
+all_in_mask = tag_mask (2 ^ TAG_COUNT - 1)
 
 abbrev pub is_all : TagMask → Bool
-is_all mask = mask.bits == (2 ^ 31 - 1)
+is_all mask = mask.bits == (2 ^ TAG_COUNT - 1)
 
 abbrev pub only_tag : Tag → TagMask
 only_tag tag = tag_mask (2 ^ number_of tag)
@@ -40,7 +41,7 @@ abbrev pub with_tags : TagMask → TagMask → TagMask
 with_tags mask others = tag_mask (bit_or mask.bits others.bits)
 
 abbrev pub without_tags : TagMask → TagMask → TagMask
-without_tags mask others = tag_mask (bit_and mask.bits (bit_not w32 others.bits))
+without_tags mask others = tag_mask (bit_and mask.bits (bit_not w64 others.bits))
 
 -- the mask behind a change
 abbrev pub after_change : MaskChange → TagMask → TagMask

@@ -15,6 +15,7 @@ use Rattle.command_text.specs.declared.topic.DatabaseName.TheVariants as databas
 use Rattle.command_text.specs.declared.topic.QueueName.TheVariants as queue
 use Rattle.command_text.specs.declared.topic.FindingName.TheVariants as finding
 use Rattle.command_text.specs.declared.topic.ListsName.TheVariants as lists
+use Rattle.command_text.specs.declared.topic.MessagesName.TheVariants as messages
 use Rattle.command_text.specs.declared.topic.PlayingName.TheVariants as playing
 use Rattle.command_text.specs.declared.topic.SessionName.TheVariants as session
 use Rattle.command_text.specs.declared.topic.SetupName.TheVariants as setup
@@ -39,7 +40,7 @@ rows =
     row names.AddId (codes "addid") (topics.Queue queue.AddId) ∷
     wide_row names.AlbumArt (codes "albumart") (topics.Setup setup.AlbumArt) ∷
     wide_row names.BinaryLimit (codes "binarylimit") (topics.Setup setup.BinaryLimit) ∷
-    wide_row names.Channels (codes "channels") (topics.Setup setup.Channels) ∷
+    wide_row names.Channels (codes "channels") (topics.Messages messages.Channels) ∷
     row names.Clear (codes "clear") (topics.Queue queue.Clear) ∷
     row names.ClearError (codes "clearerror") (topics.Playing playing.ClearError) ∷
     row names.Close (codes "close") (topics.Settings settings.Close) ∷
@@ -103,6 +104,7 @@ rows =
     row names.PriorityId (codes "prioid") (topics.Queue queue.PriorityId) ∷
     row names.Random (codes "random") (topics.Settings settings.Random) ∷
     wide_row names.ReadComments (codes "readcomments") (topics.Setup setup.ReadComments) ∷
+    wide_row names.ReadMessages (codes "readmessages") (topics.Messages messages.ReadMessages) ∷
     wide_row names.ReadPicture (codes "readpicture") (topics.Setup setup.ReadPicture) ∷
     row names.Rename (codes "rename") (topics.Lists lists.Rename) ∷
     row names.Repeat (codes "repeat") (topics.Settings settings.Repeat) ∷
@@ -117,7 +119,7 @@ rows =
     row names.Seek (codes "seek") (topics.Playing playing.Seek) ∷
     row names.SeekCurrent (codes "seekcur") (topics.Playing playing.SeekCurrent) ∷
     row names.SeekId (codes "seekid") (topics.Playing playing.SeekId) ∷
-    wide_row names.SendMessage (codes "sendmessage") (topics.Setup setup.SendMessage) ∷
+    wide_row names.SendMessage (codes "sendmessage") (topics.Messages messages.SendMessage) ∷
     row names.SetVolume (codes "setvol") (topics.Settings settings.SetVolume) ∷
     row names.Shuffle (codes "shuffle") (topics.Queue queue.Shuffle) ∷
     row names.Single (codes "single") (topics.Settings settings.Single) ∷
@@ -125,10 +127,12 @@ rows =
     row names.Status (codes "status") (topics.Settings settings.Status) ∷
     row names.Sticker (codes "sticker") topics.Stickers ∷
     row names.Stop (codes "stop") (topics.Playing playing.Stop) ∷
+    wide_row names.Subscribe (codes "subscribe") (topics.Messages messages.Subscribe) ∷
     row names.Swap (codes "swap") (topics.Queue queue.Swap) ∷
     row names.SwapId (codes "swapid") (topics.Queue queue.SwapId) ∷
     row names.TagTypes (codes "tagtypes") (topics.Database database.TagTypes) ∷
     wide_row names.ToggleOutput (codes "toggleoutput") (topics.Setup setup.ToggleOutput) ∷
+    wide_row names.Unsubscribe (codes "unsubscribe") (topics.Messages messages.Unsubscribe) ∷
     row names.Update (codes "update") (topics.Database database.Update) ∷
     wide_row names.UrlHandlers (codes "urlhandlers") (topics.Setup setup.UrlHandlers) ∷
     wide_row names.ChangeVolume (codes "volume") (topics.Settings settings.ChangeVolume) ∷ []

@@ -1,6 +1,8 @@
 -- The commands of the queue.
 use Rattle.std.specs.Prelude.{ℕ, Bool, true, false, List, Option, Result, Ok}
 use Rattle.play_queue.specs.declared.target.Target.{Target}
+use Rattle.profile.specs.declared.profile.Profile.{Profile}
+use Rattle.profile.specs.declared.profile.Profile.TheVariants.{Named, Wide}
 use Rattle.command_text.specs.declared.command.queue.QueueCommand.{QueueCommand}
 use Rattle.command_text.specs.declared.command.queue.QueueCommand.TheVariants as commands
 use Rattle.command_text.specs.declared.range.PositionRange.{PositionRange}
@@ -40,6 +42,11 @@ shown_id words = optional_argument words >>= λ word. optional 1 number_of (unle
 
 abbrev pub shown_range : List Word → Result (Option PositionRange) CommandRefusal
 shown_range words = optional_argument words >>= λ word. optional 1 range_of (unless_minus_one word)
+
+-- to the wide profile `-1` is all there
+abbrev pub shuffled_range : Profile → Option Word → Result (Option PositionRange) CommandRefusal
+shuffled_range Named word = optional 1 range_of word
+shuffled_range Wide word = optional 1 range_of (unless_minus_one word)
 
 unfoldable pub move_of : List Word → Result QueueCommand CommandRefusal
 move_of words = do
@@ -90,30 +97,30 @@ keeps_many names.Shuffle = false
 keeps_many names.Swap = false
 keeps_many names.SwapId = false
 
-unfoldable pub queue_of : QueueName → List Word → Result QueueCommand CommandRefusal
-queue_of names.Add words = added words >>= λ x. Ok (commands.Add x.0 x.1)
-queue_of names.AddId words = added words >>= λ x. Ok (commands.AddId x.0 x.1)
-queue_of names.Clear words = no_argument commands.Clear words
-queue_of names.Delete words = do
+unfoldable pub queue_of : Profile → QueueName → List Word → Result QueueCommand CommandRefusal
+queue_of profile names.Add words = added words >>= λ x. Ok (commands.Add x.0 x.1)
+queue_of profile names.AddId words = added words >>= λ x. Ok (commands.AddId x.0 x.1)
+queue_of profile names.Clear words = no_argument commands.Clear words
+queue_of profile names.Delete words = do
   word ← one_argument words
   range ← argument 1 (range_of word)
   Ok (commands.Delete range)
-queue_of names.DeleteId words = do
+queue_of profile names.DeleteId words = do
   word ← one_argument words
   id ← argument 1 (number_of word)
   Ok (commands.DeleteId id)
-queue_of names.Move words = move_of words
-queue_of names.MoveId words = move_id_of words
-queue_of names.QueueChanges words = changes_since words >>= λ x. Ok (commands.Changes x.0 x.1)
-queue_of names.QueueChangesPositions words = changes_since words >>= λ x. Ok (commands.ChangesPositions x.0 x.1)
-queue_of names.QueueFiles words = no_argument commands.Files words
-queue_of names.QueueId words = shown_id words >>= λ id. Ok (commands.InfoId id)
-queue_of names.QueueInfo words = shown_range words >>= λ range. Ok (commands.Info range)
-queue_of names.Priority words = priority_of words
-queue_of names.PriorityId words = priority_id_of words
-queue_of names.Shuffle words = do
+queue_of profile names.Move words = move_of words
+queue_of profile names.MoveId words = move_id_of words
+queue_of profile names.QueueChanges words = changes_since words >>= λ x. Ok (commands.Changes x.0 x.1)
+queue_of profile names.QueueChangesPositions words = changes_since words >>= λ x. Ok (commands.ChangesPositions x.0 x.1)
+queue_of profile names.QueueFiles words = no_argument commands.Files words
+queue_of profile names.QueueId words = shown_id words >>= λ id. Ok (commands.InfoId id)
+queue_of profile names.QueueInfo words = shown_range words >>= λ range. Ok (commands.Info range)
+queue_of profile names.Priority words = priority_of words
+queue_of profile names.PriorityId words = priority_id_of words
+queue_of profile names.Shuffle words = do
   word ← optional_argument words
-  range ← optional 1 range_of word
+  range ← shuffled_range profile word
   Ok (commands.Shuffle range)
-queue_of names.Swap words = two_numbers words >>= λ x. Ok (commands.Swap x.0 x.1)
-queue_of names.SwapId words = two_numbers words >>= λ x. Ok (commands.SwapId x.0 x.1)
+queue_of profile names.Swap words = two_numbers words >>= λ x. Ok (commands.Swap x.0 x.1)
+queue_of profile names.SwapId words = two_numbers words >>= λ x. Ok (commands.SwapId x.0 x.1)

@@ -31,6 +31,7 @@ use Rattle.command_text.specs.Queue.{queue_of, keeps_many}
 use Rattle.command_text.specs.Finding.{finding_of}
 use Rattle.command_text.specs.Lists.{lists_of}
 use Rattle.command_text.specs.Stickers.{stickers_of}
+use Rattle.command_text.specs.Messages.{messages_of}
 use Rattle.command_text.specs.Playing.{playing_of}
 use Rattle.command_text.specs.Session.{session_of}
 use Rattle.command_text.specs.Setup.{setup_of}
@@ -39,10 +40,11 @@ use Rattle.command_text.specs.Setup.{setup_of}
 unfoldable pub command_with : Profile → Topic → List Word → Result Command CommandRefusal
 command_with profile (topics.Settings name) words = settings_of name words >>= λ x. Ok (commands.Settings x)
 command_with profile (topics.Database name) words = database_of profile name words >>= λ x. Ok (commands.Database x)
-command_with profile (topics.Queue name) words = queue_of name words >>= λ x. Ok (commands.Queue x)
+command_with profile (topics.Queue name) words = queue_of profile name words >>= λ x. Ok (commands.Queue x)
 command_with profile (topics.Finding name) words = finding_of profile name words >>= λ x. Ok (commands.Finding x)
 command_with profile (topics.Lists name) words = lists_of name words >>= λ x. Ok (commands.Lists x)
 command_with profile topics.Stickers words = stickers_of words >>= λ x. Ok (commands.Stickers x)
+command_with profile (topics.Messages name) words = messages_of name words >>= λ x. Ok (commands.Messages x)
 command_with profile (topics.Playing name) words = playing_of name words >>= λ x. Ok (commands.Playing x)
 command_with profile (topics.Session name) words = session_of name words >>= λ x. Ok (commands.Session x)
 command_with profile (topics.Setup name) words = setup_of name words >>= λ x. Ok (commands.Setup x)
@@ -118,6 +120,7 @@ takes_memory (topics.Queue name) = keeps_many name
 takes_memory (topics.Finding name) = true
 takes_memory (topics.Lists name) = false
 takes_memory topics.Stickers = false
+takes_memory (topics.Messages name) = false
 takes_memory (topics.Playing name) = false
 takes_memory (topics.Session name) = false
 takes_memory (topics.Setup name) = false

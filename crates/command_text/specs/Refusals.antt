@@ -7,6 +7,8 @@ use Rattle.command_text.specs.declared.refusal.AckCode.TheVariants.{NotList, Arg
 use Rattle.command_text.specs.declared.refusal.AckCode.TheVariants.{UpdateAlready, PlayerSync, Exist}
 use Rattle.command_text.specs.declared.refusal.CommandRefusal.{CommandRefusal}
 use Rattle.command_text.specs.declared.refusal.CommandRefusal.TheVariants as command
+use Rattle.command_text.specs.declared.refusal.MessagesRefusal.{MessagesRefusal}
+use Rattle.command_text.specs.declared.refusal.MessagesRefusal.TheVariants as messages
 use Rattle.command_text.specs.declared.refusal.Refusal.{Refusal}
 use Rattle.command_text.specs.declared.refusal.Refusal.TheVariants as line
 use Rattle.command_text.specs.declared.refusal.ReadError.{ReadError}
@@ -54,7 +56,6 @@ setup_code_of setup.NoNeighbors = Unknown
 setup_code_of setup.NoPicture = NoExist
 setup_code_of setup.NoSuchOutput = NoExist
 setup_code_of setup.NoSuchPartition = NoExist
-setup_code_of setup.NobodySubscribed = NoExist
 setup_code_of setup.UnrecognizedGain = Argument
 setup_code_of setup.UnsupportedAttribute = Argument
 
@@ -67,7 +68,6 @@ setup_text_of setup.NoNeighbors = codes "No neighbor plugin configured"
 setup_text_of setup.NoPicture = codes "No file exists"
 setup_text_of setup.NoSuchOutput = codes "No such audio output"
 setup_text_of setup.NoSuchPartition = codes "partition does not exist"
-setup_text_of setup.NobodySubscribed = codes "nobody is subscribed to this channel"
 setup_text_of setup.UnrecognizedGain = codes "Unrecognized replay gain mode"
 setup_text_of setup.UnsupportedAttribute = codes "Unsupported attribute"
 
@@ -78,6 +78,21 @@ tags_text_of tags.MissingArguments = codes "Not enough arguments"
 tags_text_of tags.TooManyArguments = codes "Too many arguments"
 tags_text_of tags.UnknownSubCommand = codes "Unknown sub command"
 tags_text_of tags.UnknownTagType = codes "Unknown tag type"
+
+-- what is told of messages from client to client
+abbrev pub messages_code_of : MessagesRefusal → AckCode
+messages_code_of messages.BadChannelName = Argument
+messages_code_of messages.ChannelsFull = Exist
+messages_code_of messages.AlreadySubscribed = Exist
+messages_code_of messages.NotSubscribed = NoExist
+messages_code_of messages.NobodySubscribed = NoExist
+
+abbrev pub messages_text_of : MessagesRefusal → List ℕ
+messages_text_of messages.BadChannelName = codes "invalid channel name"
+messages_text_of messages.ChannelsFull = codes "subscription list is full"
+messages_text_of messages.AlreadySubscribed = codes "already subscribed to this channel"
+messages_text_of messages.NotSubscribed = codes "not subscribed to this channel"
+messages_text_of messages.NobodySubscribed = codes "nobody is subscribed to this channel"
 
 abbrev pub row_of : CommandRefusal → CommandRow
 row_of command.NotAllowedInList = row Argument None (codes "not allowed in a command list")
@@ -110,6 +125,7 @@ row_of command.RequestTooLarge = row System None (codes "request too large")
 row_of command.OutOfMemory = row System (Some 7) (codes "out of memory")
 row_of (command.Setup refusal) = row (setup_code_of refusal) None (setup_text_of refusal)
 row_of (command.Tags refusal) = row Argument None (tags_text_of refusal)
+row_of (command.Messages refusal) = row (messages_code_of refusal) None (messages_text_of refusal)
 
 abbrev pub command_code_of : CommandRefusal → AckCode
 command_code_of refusal = (row_of refusal).code

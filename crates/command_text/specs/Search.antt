@@ -3,6 +3,7 @@
 use Rattle.std.specs.Prelude.{◌≡◌, ◌≢◌, ◌⊎◌, ℕ, ◌+◌, List, [], ◌∷◌, ◌++◌, length, codes, Bool, true, false}
 use Rattle.std.specs.Prelude.{Option, Some, None, Result, Ok, Err}
 use Rattle.profile.specs.declared.profile.Profile.{Profile}
+use Rattle.profile.specs.declared.profile.Profile.TheVariants.{Named, Wide}
 use Rattle.filter_expr.specs.declared.case.Case.{Case}
 use Rattle.filter_expr.specs.declared.order.SortOrder.{SortOrder}
 use Rattle.filter_expr.specs.Parts.{opening, begins_so}
@@ -71,15 +72,44 @@ pub record IsPairs (adds : Bool) (filter behind : List Word) : Type 0 where
   pub are_pairs : ArePairs adds pairs
   pub ends : EndsPairs adds behind
 
+-- In the wide profile: an expression or a pair, whatever its tag, and all expressions and pairs behind it up to a part.
+abbrev pub IsOne : List Word → Type 0
+IsOne filter = IsExpression filter ⊎ ((tag value : Word) × (filter ≡ tag ∷ value ∷ []) × (begins_so opening tag ≡ false))
+
+abbrev pub AreMixed : Bool → List Word → Type 0
+AreMixed adds [] = Unit {0}
+AreMixed adds (word ∷ []) = begins_so opening word ≡ true
+AreMixed adds (word ∷ other ∷ words) =
+    ((begins_so opening word ≡ true) × AreMixed adds (other ∷ words))
+    ⊎ ((begins_so opening word ≡ false) × (begins_part adds word ≡ false) × AreMixed adds words)
+
+abbrev pub EndsMixed : Bool → List Word → Type 0
+EndsMixed adds [] = Unit {0}
+EndsMixed adds (word ∷ []) = begins_so opening word ≡ false
+EndsMixed adds (name ∷ value ∷ words) = (begins_so opening name ≡ false) × (begins_part adds name ≡ true)
+
+pub record IsMixed (adds : Bool) (filter behind : List Word) : Type 0 where
+  pub first : List Word
+  pub more : List Word
+  pub whole : filter ≡ first ++ more
+  pub one : IsOne first
+  pub are_mixed : AreMixed adds more
+  pub ends : EndsMixed adds behind
+
+-- a filter that a profile knows
+abbrev pub IsFilter : Profile → Bool → List Word → List Word → Type 0
+IsFilter Named adds filter behind = IsExpression filter ⊎ IsPairs adds filter behind
+IsFilter Wide adds filter behind = IsMixed adds filter behind
+
 -- only where songs are added a position may stand
 abbrev pub IsPosition : Bool → Option Word → List Word → Type 0
 IsPosition true position rest = IsNext (codes "position") position rest
 IsPosition false position rest = position ≡ None
 
 -- the words part so
-pub record ArePartedSo (adds : Bool) (words : List Word) (p : Parts) : Type 0 where
+pub record ArePartedSo (profile : Profile) (adds : Bool) (words : List Word) (p : Parts) : Type 0 where
   pub whole : words ≡ p.filter ++ behind_filter p
-  pub filter : IsExpression p.filter ⊎ IsPairs adds p.filter (behind_filter p)
+  pub filter : IsFilter profile adds p.filter (behind_filter p)
   pub sort : IsNext (codes "sort") p.sort (behind_sort p)
   pub window : IsNext (codes "window") p.window (behind_window p)
   pub position : IsPosition adds p.position p.rest
@@ -126,12 +156,13 @@ AreTwoByTwo (word ∷ []) = ⊥
 AreTwoByTwo (word ∷ other ∷ words) = AreTwoByTwo words
 
 -- the words part so, and those that are in no part come two by two: else their count is wrong
-pub record AreSearch (adds : Bool) (words : List Word) (p : Parts) : Type 0 where
-  pub parted : ArePartedSo adds words p
+pub record AreSearch (profile : Profile) (adds : Bool) (words : List Word) (p : Parts) : Type 0 where
+  pub parted : ArePartedSo profile adds words p
   pub even : AreTwoByTwo p.rest
 
 -- the answer to words: what their parts say, or a wrong count where they don't part so
-abbrev pub IsAnswer : Bool → (Parts → Result FindingCommand CommandRefusal) → List Word → Result FindingCommand CommandRefusal → Type 0
-IsAnswer adds says words answer =
-    ((p : Parts) × AreSearch adds words p × (answer ≡ says p))
-    ⊎ (((p : Parts) → AreSearch adds words p → ⊥) × (answer ≡ Err WrongCount))
+abbrev pub IsAnswer :
+    Profile → Bool → (Parts → Result FindingCommand CommandRefusal) → List Word → Result FindingCommand CommandRefusal → Type 0
+IsAnswer profile adds says words answer =
+    ((p : Parts) × AreSearch profile adds words p × (answer ≡ says p))
+    ⊎ (((p : Parts) → AreSearch profile adds words p → ⊥) × (answer ≡ Err WrongCount))

@@ -14,7 +14,6 @@ use Rattle.command_text.specs.Counts.{Word}
 
 -- how many arguments each takes
 abbrev pub setup_count : SetupName → ℕ
-setup_count names.Channels = 0
 setup_count names.Decoders = 0
 setup_count names.ListMounts = 0
 setup_count names.ListNeighbors = 0
@@ -24,7 +23,6 @@ setup_count names.ReplayGainStatus = 0
 setup_count names.UrlHandlers = 0
 setup_count names.AlbumArt = 2
 setup_count names.ReadPicture = 2
-setup_count names.SendMessage = 2
 setup_count names.SetOutput = 3
 setup_count name = 1
 
@@ -44,7 +42,6 @@ is_no_gain word = bytes_eq word (codes "0") || bytes_eq word (codes "0.000000")
 abbrev pub setup_for : SetupName → Word → Result SetupCommand CommandRefusal
 setup_for names.AlbumArt word = Err (Setup refusals.NoPicture)
 setup_for names.BinaryLimit word = Ok commands.Nothing
-setup_for names.Channels word = Ok commands.Nothing
 setup_for names.Crossfade word = if_so (bytes_eq word (codes "0")) refusals.NoCrossfade
 setup_for names.Decoders word = Ok commands.Decoders
 setup_for names.DisableOutput word = of_output word refusals.AlwaysOn
@@ -62,7 +59,6 @@ setup_for names.ReadComments word = Ok commands.Nothing
 setup_for names.ReadPicture word = Ok commands.Nothing
 setup_for names.ReplayGainMode word = if_so (bytes_eq word (codes "off")) refusals.UnrecognizedGain
 setup_for names.ReplayGainStatus word = Ok commands.ReplayGain
-setup_for names.SendMessage word = Err (Setup refusals.NobodySubscribed)
 setup_for names.ToggleOutput word = of_output word refusals.AlwaysOn
 setup_for names.UrlHandlers word = Ok commands.Nothing
 

@@ -12,8 +12,8 @@ mod times;
 
 pub use ack::write_ack;
 pub use names::{
-    write_changed, write_commands, write_counts, write_directory, write_playlist, write_statistics,
-    write_sticker, write_tag_type, write_times, write_value,
+    write_changed, write_channel, write_commands, write_counts, write_directory, write_message,
+    write_playlist, write_statistics, write_sticker, write_tag_type, write_times, write_value,
 };
 pub use no_memory::NoMemory;
 pub use pairs::{write_greeting, write_list_ok, write_number, write_ok, write_pair};

@@ -21,6 +21,7 @@ pub mod database;
 pub mod finding;
 mod groups;
 pub mod lists;
+pub mod messages;
 pub mod playing;
 pub mod queue;
 pub mod session;
@@ -31,6 +32,7 @@ pub mod sticker;
 use database::DatabaseCommand;
 use finding::FindingCommand;
 use lists::ListsCommand;
+use messages::MessagesCommand;
 use playing::PlayingCommand;
 use queue::QueueCommand;
 use session::SessionCommand;
@@ -47,6 +49,7 @@ pub enum Command<'w> {
     Finding(FindingCommand<'w>),
     Lists(ListsCommand<'w>),
     Stickers(StickersCommand<'w>),
+    Messages(MessagesCommand<'w>),
     Playing(PlayingCommand),
     Session(SessionCommand),
     Setup(SetupCommand),
@@ -172,10 +175,11 @@ fn with<'w>(
         Topic::Database(name) => {
             Ok(Command::Database(database::read(alloc, profile, name, words)?))
         },
-        Topic::Queue(name) => Ok(Command::Queue(queue::read(alloc, name, words)?)),
+        Topic::Queue(name) => Ok(Command::Queue(queue::read(alloc, profile, name, words)?)),
         Topic::Finding(name) => Ok(Command::Finding(finding::read(alloc, profile, name, words)?)),
         Topic::Lists(name) => Ok(Command::Lists(lists::read(name, words)?)),
         Topic::Stickers => Ok(Command::Stickers(sticker::read(words)?)),
+        Topic::Messages(name) => Ok(Command::Messages(messages::read(name, words)?)),
         Topic::Playing(name) => Ok(Command::Playing(playing::read(name, words)?)),
         Topic::Session(name) => Ok(Command::Session(session::read(name, words)?)),
         Topic::Setup(name) => Ok(Command::Setup(setup::read(name, words)?)),

@@ -47,12 +47,12 @@ pub fn words_are_text()
 /// them, `sort`, `window` and, where songs are added, `position`, each with its value or left out, and what these say, a search or the
 /// first fault with its place; or as a wrong count, where they don't part so. That is what the definitions give.
 pub fn searches_have_one_reading()
-    ensures once { (adds : Bool) (words : List Word) (p q : Parts) →
-        ArePartedSo adds words p → ArePartedSo adds words q → p ≡ q }
+    ensures once { (profile : Profile) (adds : Bool) (words : List Word) (p q : Parts) →
+        ArePartedSo profile adds words p → ArePartedSo profile adds words q → p ≡ q }
     ensures found { (profile : Profile) (case : Case) (words : List Word) (answer : Result FindingCommand CommandRefusal) →
-        (find_of profile case words ≡ answer) ↔ IsAnswer false (found_by profile case) words answer }
+        (find_of profile case words ≡ answer) ↔ IsAnswer profile false (found_by profile case) words answer }
     ensures added { (profile : Profile) (case : Case) (words : List Word) (answer : Result FindingCommand CommandRefusal) →
-        (find_add_of profile case words ≡ answer) ↔ IsAnswer true (added_by profile case) words answer }
+        (find_add_of profile case words ≡ answer) ↔ IsAnswer profile true (added_by profile case) words answer }
 {}
 
 /// Where words are no filter, one word is the fault, and whatever stands behind it, they are refused in the same way and at the
@@ -93,7 +93,7 @@ pub fn masks_are_sets()
     ensures only { (tag : Tag) → has (only_tag tag) tag ≡ true }
     ensures others { (tag other : Tag) → tag ≢ other → has (only_tag tag) other ≡ false }
     ensures with { (mask others : TagMask) (tag : Tag) → has (with_tags mask others) tag ≡ (has mask tag || has others tag) }
-    ensures without { (mask others : TagMask) (tag : Tag) → others.bits < 2 ^ 32
+    ensures without { (mask others : TagMask) (tag : Tag) → others.bits < 2 ^ 64
         → has (without_tags mask others) tag ≡ (has mask tag && not (has others tag)) }
     ensures told { (texts : List TagText) → tag_lines all_in_mask texts ≡ flat_map tag_line texts }
 {}

@@ -27,15 +27,17 @@ pub mod words;
 
 pub use answer::{
     CurrentSong, NoMemory, StatusLines, WANT_OF_MEMORY_LENGTH, write_ack, write_changed,
-    write_commands, write_counts, write_directory, write_entry, write_file, write_greeting,
-    write_id, write_job, write_list_ok, write_number, write_numbered_file, write_ok, write_pair,
-    write_place, write_playlist, write_setup, write_setup_status, write_song, write_statistics,
-    write_status, write_sticker, write_tag_type, write_times, write_value, write_volume,
+    write_channel, write_commands, write_counts, write_directory, write_entry, write_file,
+    write_greeting, write_id, write_job, write_list_ok, write_message, write_number,
+    write_numbered_file, write_ok, write_pair, write_place, write_playlist, write_setup,
+    write_setup_status, write_song, write_statistics, write_status, write_sticker, write_tag_type,
+    write_times, write_value, write_volume,
 };
 pub use argument::{number, number_to, window};
 pub use command::database::DatabaseCommand;
 pub use command::finding::{FindingCommand, Search};
 pub use command::lists::{ListsCommand, SaveMode};
+pub use command::messages::MessagesCommand;
 pub use command::playing::PlayingCommand;
 pub use command::queue::QueueCommand;
 pub use command::session::SessionCommand;
@@ -49,7 +51,9 @@ pub use lines::{Lines, LinesRef};
 pub use name::CommandName;
 pub use place::Place;
 pub use range::{EntryIds, PositionRange, PositionRanges, Window};
-pub use refusal::{AckCode, CommandRefusal, ReadError, Refusal, SetupRefusal, TagsRefusal};
+pub use refusal::{
+    AckCode, CommandRefusal, MessagesRefusal, ReadError, Refusal, SetupRefusal, TagsRefusal,
+};
 pub use request::{Line, Request};
 pub use tag_list::TagList;
 pub use tag_mask::{MaskChange, TagMask};

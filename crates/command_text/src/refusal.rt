@@ -1,7 +1,8 @@
 // Why a line isn't a command, or a command isn't performed, with the protocol's codes.
 ghost use Rattle.std.specs.Prelude.{◌≡◌};
 ghost use Rattle.command_text.specs.Refusals.{code_number, code_of, command_code_of, command_number_of, name_of_refusal, number_of_error};
-ghost use Rattle.command_text.specs.Refusals.{number_of_refusal, setup_code_of, setup_text_of, tags_text_of};
+ghost use Rattle.command_text.specs.Refusals.{number_of_refusal, setup_code_of, setup_text_of, tags_text_of, messages_code_of};
+ghost use Rattle.command_text.specs.Refusals.{messages_text_of};
 
 use crate::name::CommandName;
 use crate::words::Word;
@@ -43,7 +44,6 @@ pub enum SetupRefusal {
     NoPicture,
     NoSuchOutput,
     NoSuchPartition,
-    NobodySubscribed,
     UnrecognizedGain,
     UnsupportedAttribute,
 }
@@ -55,10 +55,8 @@ impl SetupRefusal {
         match self {
             SetupRefusal::IncorrectPassword => AckCode::Password,
             SetupRefusal::NoNeighbors => AckCode::Unknown,
-            SetupRefusal::NoPicture
-            | SetupRefusal::NoSuchOutput
-            | SetupRefusal::NoSuchPartition
-            | SetupRefusal::NobodySubscribed => AckCode::NoExist,
+            SetupRefusal::NoPicture | SetupRefusal::NoSuchOutput | SetupRefusal::NoSuchPartition =>
+                AckCode::NoExist,
             SetupRefusal::AlwaysOn
             | SetupRefusal::NoCrossfade
             | SetupRefusal::NoMixramp
@@ -80,7 +78,6 @@ impl SetupRefusal {
             SetupRefusal::NoPicture => "No file exists",
             SetupRefusal::NoSuchOutput => "No such audio output",
             SetupRefusal::NoSuchPartition => "partition does not exist",
-            SetupRefusal::NobodySubscribed => "nobody is subscribed to this channel",
             SetupRefusal::UnrecognizedGain => "Unrecognized replay gain mode",
             SetupRefusal::UnsupportedAttribute => "Unsupported attribute",
         }
@@ -109,6 +106,44 @@ impl TagsRefusal {
             TagsRefusal::TooManyArguments => "Too many arguments",
             TagsRefusal::UnknownSubCommand => "Unknown sub command",
             TagsRefusal::UnknownTagType => "Unknown tag type",
+        }
+    }
+}
+
+/// Why a command of messages from client to client was refused.
+#[derive(Clone, Copy, Debug, PartialEq, Eq)]
+pub enum MessagesRefusal {
+    /// No channel can have the name.
+    BadChannelName,
+    /// The client has as many channels as it may have.
+    ChannelsFull,
+    AlreadySubscribed,
+    NotSubscribed,
+    /// No client has the channel, or none that has it has room for the message.
+    NobodySubscribed,
+}
+
+impl MessagesRefusal {
+    pub fn code(self) -> AckCode
+        ensures { result ≡ messages_code_of self }
+    {
+        match self {
+            MessagesRefusal::BadChannelName => AckCode::Argument,
+            MessagesRefusal::ChannelsFull | MessagesRefusal::AlreadySubscribed => AckCode::Exist,
+            MessagesRefusal::NotSubscribed | MessagesRefusal::NobodySubscribed => AckCode::NoExist,
+        }
+    }
+
+    /// What an `ACK` line says of it.
+    pub(crate) fn text(self) -> &'static str
+        ensures { result.now ≡ messages_text_of self }
+    {
+        match self {
+            MessagesRefusal::BadChannelName => "invalid channel name",
+            MessagesRefusal::ChannelsFull => "subscription list is full",
+            MessagesRefusal::AlreadySubscribed => "already subscribed to this channel",
+            MessagesRefusal::NotSubscribed => "not subscribed to this channel",
+            MessagesRefusal::NobodySubscribed => "nobody is subscribed to this channel",
         }
     }
 }
@@ -166,6 +201,8 @@ pub enum CommandRefusal {
     Setup(SetupRefusal),
     /// Tags aren't named so.
     Tags(TagsRefusal),
+    /// Messages don't go so.
+    Messages(MessagesRefusal),
 }
 
 impl CommandRefusal {
@@ -197,11 +234,13 @@ impl CommandRefusal {
             | CommandRefusal::RequestTooLarge
             | CommandRefusal::OutOfMemory => AckCode::System,
             CommandRefusal::Setup(refusal) => refusal.code(),
+            CommandRefusal::Messages(refusal) => refusal.code(),
         }
     }
 
     /// The number of the refusal. None for the two of command lists, for a relative place without a current song, for a job
-    /// that runs already, for a request that is too large, for what the daemon isn't set up with, and for tags that aren't named so.
+    /// that runs already, for a request that is too large, for what the daemon isn't set up with, for tags that aren't named so,
+    /// and for messages.
     pub fn number(&self) -> Option<u8>
         ensures { result ≡ command_number_of self.now }
     {
@@ -212,7 +251,8 @@ impl CommandRefusal {
             | CommandRefusal::AlreadyUpdating
             | CommandRefusal::RequestTooLarge
             | CommandRefusal::Setup(_)
-            | CommandRefusal::Tags(_) => None,
+            | CommandRefusal::Tags(_)
+            | CommandRefusal::Messages(_) => None,
             CommandRefusal::OutOfMemory => Some(7),
             CommandRefusal::NoSuchUri => Some(17),
             CommandRefusal::BadFilter => Some(19),

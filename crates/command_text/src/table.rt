@@ -7,11 +7,11 @@ ghost use Rattle.command_text.specs.declared.topic.Topic.{Topic};
 
 use crate::name::CommandName;
 use crate::topic::Topic::{
-    self, Database, Finding, Lists, Playing, Queue, Session, Settings, Setup, Stickers,
+    self, Database, Finding, Lists, Messages, Playing, Queue, Session, Settings, Setup, Stickers,
 };
 use crate::topic::{
-    DatabaseName, FindingName, ListsName, PlayingName, QueueName, SessionName, SettingsName,
-    SetupName,
+    DatabaseName, FindingName, ListsName, MessagesName, PlayingName, QueueName, SessionName,
+    SettingsName, SetupName,
 };
 use profile::Profile::{self, Named, Wide};
 
@@ -37,7 +37,7 @@ const ROWS: &[Row] = &[
     (
         CommandName::Channels,
         "channels",
-        Setup(SetupName::Channels),
+        Messages(MessagesName::Channels),
         Wide,
     ),
     (CommandName::Clear, "clear", Queue(QueueName::Clear), Named),
@@ -384,6 +384,12 @@ const ROWS: &[Row] = &[
         Wide,
     ),
     (
+        CommandName::ReadMessages,
+        "readmessages",
+        Messages(MessagesName::ReadMessages),
+        Wide,
+    ),
+    (
         CommandName::ReadPicture,
         "readpicture",
         Setup(SetupName::ReadPicture),
@@ -455,7 +461,7 @@ const ROWS: &[Row] = &[
     (
         CommandName::SendMessage,
         "sendmessage",
-        Setup(SetupName::SendMessage),
+        Messages(MessagesName::SendMessage),
         Wide,
     ),
     (
@@ -490,6 +496,12 @@ const ROWS: &[Row] = &[
     ),
     (CommandName::Sticker, "sticker", Stickers, Named),
     (CommandName::Stop, "stop", Playing(PlayingName::Stop), Named),
+    (
+        CommandName::Subscribe,
+        "subscribe",
+        Messages(MessagesName::Subscribe),
+        Wide,
+    ),
     (CommandName::Swap, "swap", Queue(QueueName::Swap), Named),
     (
         CommandName::SwapId,
@@ -507,6 +519,12 @@ const ROWS: &[Row] = &[
         CommandName::ToggleOutput,
         "toggleoutput",
         Setup(SetupName::ToggleOutput),
+        Wide,
+    ),
+    (
+        CommandName::Unsubscribe,
+        "unsubscribe",
+        Messages(MessagesName::Unsubscribe),
         Wide,
     ),
     (

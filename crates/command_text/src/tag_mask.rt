@@ -2,12 +2,12 @@
 ghost use Rattle.std.specs.Prelude.{◌≡◌};
 ghost use Rattle.command_text.specs.Masks.{after_change, all_in_mask, empty_mask, has, is_all, only_tag, with_tags};
 
-use song_files::Tag;
+use song_files::{TAG_COUNT, Tag};
 
 /// The tags that a client sees: a number whose bits are the tags of these numbers.
 #[derive(Clone, Copy, Debug)]
 pub struct TagMask {
-    pub bits: u32,
+    pub bits: u64,
 }
 
 /// What `tagtypes` does to the tags that a client sees.
@@ -23,7 +23,7 @@ pub enum MaskChange {
     Disable(TagMask),
 }
 
-const ALL_BITS: u32 = 0x7fff_ffff;
+const ALL_BITS: u64 = (1 << TAG_COUNT) - 1;
 
 impl TagMask {
     /// No tag.

@@ -12,6 +12,7 @@ pub(crate) enum Topic {
     Session(SessionName),
     Setup(SetupName),
     Stickers,
+    Messages(MessagesName),
 }
 
 #[derive(Clone, Copy)]
@@ -119,7 +120,6 @@ pub(crate) enum SessionName {
 pub(crate) enum SetupName {
     AlbumArt,
     BinaryLimit,
-    Channels,
     Crossfade,
     Decoders,
     DisableOutput,
@@ -137,7 +137,15 @@ pub(crate) enum SetupName {
     ReadPicture,
     ReplayGainMode,
     ReplayGainStatus,
-    SendMessage,
     ToggleOutput,
     UrlHandlers,
+}
+
+#[derive(Clone, Copy)]
+pub(crate) enum MessagesName {
+    Channels,
+    ReadMessages,
+    SendMessage,
+    Subscribe,
+    Unsubscribe,
 }

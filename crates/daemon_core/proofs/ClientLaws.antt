@@ -7,21 +7,23 @@ use Rattle.idle_masks.specs.declared.refusal.WatchError.{WatchError}
 use Rattle.std.specs.List.{list_all}
 use Rattle.idle_masks.specs.Subsystems.{none, is_empty}
 use Rattle.idle_masks.specs.declared.subsystem.Subsystems.{Subsystems}
-use Rattle.idle_masks.specs.Watched.{newcomer, joined, left, with_waiting, due, marked, reports_of}
+use Rattle.idle_masks.specs.Watched.{newcomer, joined, left, with_waiting, due, reports_of}
 use Rattle.idle_masks.specs.declared.watch.Watched.{Watched}
 use Rattle.daemon_core.specs.Handled.{Does, IsNothingBut}
 use Rattle.daemon_core.specs.Parts.{state_of}
+use Rattle.daemon_core.specs.Pending.{with_news}
 use Rattle.daemon_core.specs.Room.{IsRoomFor, IsReadyToTell}
 use Rattle.daemon_core.specs.Session.{Acted}
 use Rattle.daemon_core.specs.declared.handled.Handled.{Handled}
 use Rattle.daemon_core.specs.declared.parts.CoreParts.{CoreParts}
 use Rattle.daemon_core.specs.declared.room.Room.{Room}
-use Rattle.daemon_core.proofs.RoomLaws.{fewer_fit, length_with, reports_fit, marked_length, some_are}
+use Rattle.daemon_core.proofs.RoomLaws.{fewer_fit, length_with, reports_fit, news_length, some_are}
 
 -- what an event does that answers or closes, and nothing else
 pub does_but : (a : Acted) (q : CoreParts) (h : Handled) → IsNothingBut a.answer a.closes h → state_of q ≡ a.after → a.ops ≡ [] →
-    a.refused_at ≡ None → a.looks ≡ 0 → a.ended ≡ false → a.changed ≡ none → IsReadyToTell q → Does a q h
-does_but a q h but state ops refused looks ended changed ready = record {
+    a.refused_at ≡ None → a.looks ≡ 0 → a.ended ≡ false → a.changed ≡ none → q.talks.notified.items ≡ a.notified → IsReadyToTell q →
+    Does a q h
+does_but a q h but state ops refused looks ended changed notified ready = record {
   state = state;
   answer = but.answer;
   closes = but.closes;
@@ -30,6 +32,7 @@ does_but a q h but state ops refused looks ended changed ready = record {
   looks = but.looks ∙ sym looks;
   ended = but.ended ∙ sym ended;
   changed = but.changed ∙ sym changed;
+  notified = notified;
   one = but.one;
   ready = ready;
 }
@@ -104,14 +107,14 @@ none_is None is = refl
 none_is (Some w) is = absurd (false≢true (sym is))
 
 -- as many reports as clients, or fewer
-pub reports_within : (p : CoreParts) (ws : List Watched) (changed : Subsystems) → ws ≡ marked p.watch changed
-    → length (reports_of ws) ≤ length p.watch
-reports_within p ws changed is =
-    let fits = reports_fit (marked p.watch changed) in
-    omega (arith, fits, ap length (ap reports_of is), marked_length p.watch changed)
+pub reports_within : (p : CoreParts) (ws : List Watched) (changed : Subsystems) (notified : List ℕ) →
+    ws ≡ with_news changed notified p.watch → length (reports_of ws) ≤ length p.watch
+reports_within p ws changed notified is =
+    let fits = reports_fit (with_news changed notified p.watch) in
+    omega (arith, fits, ap length (ap reports_of is), news_length p.watch changed notified)
 
 -- those that are told are some, where one is due something
-pub some_are_told : (p : CoreParts) (changed : Subsystems) → list_all (λ w. is_empty (due w)) (marked p.watch changed) ≡ false →
-    0 < length p.watch
-some_are_told p changed due =
-    let some = some_are (marked p.watch changed) due in omega (arith, some, marked_length p.watch changed)
+pub some_are_told : (p : CoreParts) (changed : Subsystems) (notified : List ℕ) →
+    list_all (λ w. is_empty (due w)) (with_news changed notified p.watch) ≡ false → 0 < length p.watch
+some_are_told p changed notified due =
+    let some = some_are (with_news changed notified p.watch) due in omega (arith, some, news_length p.watch changed notified)

@@ -26,7 +26,7 @@ ready_left before after c has gone kept =
 
 -- a request that ended so
 pub ends_so : (c : ℕ) (before after : CoreParts) (work : Work) (end : RequestEnd) (handled : Handled) (ending : Ending) →
-    end.ending ≡ ending → Does (of_ran c (state_of before) (ran_of before.machine work end) ending) after handled →
-    Does (of_ran c (state_of before) (ran_of before.machine work end) end.ending) after handled
+    end.ending ≡ ending → Does (of_ran c (state_of before) (ran_of before.machine before.talks work end) ending) after handled →
+    Does (of_ran c (state_of before) (ran_of before.machine before.talks work end) end.ending) after handled
 ends_so c before after work end handled ending is does =
-    subst (λ e. Does (of_ran c (state_of before) (ran_of before.machine work end) e) after handled) (sym is) does
+    subst (λ e. Does (of_ran c (state_of before) (ran_of before.machine before.talks work end) e) after handled) (sym is) does

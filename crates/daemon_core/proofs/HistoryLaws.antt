@@ -9,7 +9,7 @@ use Rattle.command_text.specs.declared.place.Place.TheVariants.{Alone, InList}
 use Rattle.command_text.specs.declared.request.Request.{Request}
 use Rattle.command_text.specs.declared.request.Request.TheVariants.{Single, List as CommandList, OkList, Noidle}
 use Rattle.idle_masks.specs.Subsystems.{contains, none, union, intersection, is_empty}
-use Rattle.idle_masks.specs.Watched.{newcomer, watched, left, told_to_wait, with_waiting, grown, marked, due, report_of, reports_of}
+use Rattle.idle_masks.specs.Watched.{newcomer, watched, left, told_to_wait, with_waiting, grown, due, report_of, reports_of}
 use Rattle.idle_masks.specs.Watched.{reported}
 use Rattle.idle_masks.specs.Watched.{after_reports}
 use Rattle.idle_masks.specs.declared.ready.Report.{Report}
@@ -17,16 +17,15 @@ use Rattle.idle_masks.specs.declared.subsystem.Subsystems.{Subsystems}
 use Rattle.idle_masks.specs.declared.watch.Watched.{Watched}
 use Rattle.state_codec.specs.SavedState.{SavedState}
 use Rattle.daemon_core.specs.Agreement.{Rises, Agree, AgreeBut}
-use Rattle.daemon_core.specs.Pending.{Moment, connects, is_pending, pending_of}
+use Rattle.daemon_core.specs.Pending.{Moment, connects, is_pending, news, pending_of, with_news}
 use Rattle.daemon_core.specs.Replay.{Entry, stepped, replay, moments, moment_of, report_if, reported_by, told_waiting, reply}
-use Rattle.daemon_core.specs.Run.{Ran, ran, unspent}
+use Rattle.daemon_core.specs.Run.{Ran, ran}
 use Rattle.daemon_core.specs.Session.{Acted, of_ran, runs, output, happened}
-use Rattle.daemon_core.specs.Seen.{tags_seen}
 use Rattle.daemon_core.specs.State.{State}
 use Rattle.machine_core.specs.Happening.{Happening}
 use Rattle.machine_core.specs.Reports.{when_fed, when_ended, when_broken}
 use Rattle.machine_core.specs.Scanning.{when_found, when_scanned}
-use Rattle.daemon_core.specs.Step.{connects_client, asked, asked_waiting, requested_by, waiting_of, acted, told_to, step}
+use Rattle.daemon_core.specs.Step.{begun, connects_client, asked, asked_waiting, requested_by, waiting_of, acted, told_to, step}
 use Rattle.daemon_core.specs.declared.event.Event.{Event}
 use Rattle.daemon_core.specs.declared.event.Event.TheVariants as events
 use Rattle.daemon_core.specs.declared.outcome.Ending.{Ending}
@@ -37,7 +36,7 @@ use Rattle.daemon_core.proofs.PendingLaws.{contains-set_of, set_ext, agree_after
 pub record Keeps (earlier : List Moment) (a : Acted) : Type 0 where
   pub rises : Rises a.after.clients
   pub agree : AgreeBut (moment_of a) earlier a.after.clients
-  pub quiet : (c : ℕ) → connects c (moment_of a) ≡ true → a.changed ≡ none
+  pub quiet : (c : ℕ) → connects c (moment_of a) ≡ true → news a.changed a.notified c ≡ none
 
 -- Filters keep what is said of each client.
 all_one : (P : Watched → Type 0) (w : Watched) (ws : List Watched) (b : Bool) → P w → AllByRecursion P ws →
@@ -178,11 +177,11 @@ keeps_runs earlier c s r rises agree = keeps_ran earlier c s r r.ending rises ag
 keeps_asked : (earlier : List Moment) (c : ℕ) (refused : Option ℕ) (s : State) (request : Request) → Rises s.clients →
     Agree earlier s.clients → Keeps earlier (asked c refused s request)
 keeps_asked earlier c refused s (Single line) rises agree =
-    keeps_runs earlier c s (ran Alone [] refused 0 (unspent s.machine (tags_seen s.masks c)) (line ∷ []) s.machine) rises agree
+    keeps_runs earlier c s (ran c Alone [] refused 0 (begun c s) (line ∷ []) s.machine) rises agree
 keeps_asked earlier c refused s (CommandList lines) rises agree =
-    keeps_runs earlier c s (ran InList [] refused 0 (unspent s.machine (tags_seen s.masks c)) lines s.machine) rises agree
+    keeps_runs earlier c s (ran c InList [] refused 0 (begun c s) lines s.machine) rises agree
 keeps_asked earlier c refused s (OkList lines) rises agree =
-    keeps_runs earlier c s (ran InList list_ok refused 0 (unspent s.machine (tags_seen s.masks c)) lines s.machine) rises agree
+    keeps_runs earlier c s (ran c InList list_ok refused 0 (begun c s) lines s.machine) rises agree
 keeps_asked earlier c refused s Noidle rises agree = record { rises = rises; agree = agree; quiet = λ _ _. refl }
 
 keeps_waiting : (earlier : List Moment) (c : ℕ) (s : State) (request : Request) → Rises s.clients → Agree earlier s.clients →
@@ -236,14 +235,19 @@ pub record Holds (kept : SavedState) (history : List Entry) : Type 0 where
   pub rises : let s = replay kept history in Rises s.clients
   pub agree : let s = replay kept history in Agree (moments kept history) s.clients
 
-rises_after : (ws : List Watched) (changed : Subsystems) → Rises ws → Rises (after_reports (marked ws changed))
-rises_after [] changed h = tt
-rises_after (w ∷ ws) changed h = (above ws h.0, rises_after ws changed h.1)
+rises_after : (ws : List Watched) (changed : Subsystems) (notified : List ℕ) → Rises ws →
+    Rises (after_reports (with_news changed notified ws))
+rises_after [] changed notified h = tt
+rises_after (w ∷ ws) changed notified h = (above ws h.0, rises_after ws changed notified h.1)
   where
     above : (vs : List Watched) → AllByRecursion (λ v. w.client < v.client) vs →
-        AllByRecursion (λ v. let u = reported (grown changed w) in u.client < v.client) (after_reports (marked vs changed))
+        AllByRecursion (λ v. let u = reported (grown (news changed notified w.client) w) in u.client < v.client)
+        (after_reports (with_news changed notified vs))
     above [] a = tt
-    above (v ∷ vs) a = (omega (arith, a.0, reported_number changed w, reported_number changed v), above vs a.1)
+    above (v ∷ vs) a = (
+      omega (arith, a.0, reported_number (news changed notified w.client) w, reported_number (news changed notified v.client) v),
+      above vs a.1,
+    )
 
 -- What is due to a waiting client is what is pending for it by the history.
 or_comm_false : (a b : Bool) → (a || b) ≡ (b || a)
@@ -252,18 +256,21 @@ or_comm_false true false = refl
 or_comm_false false true = refl
 or_comm_false false false = refl
 
+abbrev news_in : Moment → Watched → Subsystems
+news_in m w = news m.changed m.notified w.client
+
 grown_by_history : (m : Moment) (earlier : List Moment) (w : Watched) (fresh : Bool) → m.reports ≡ [] → connects w.client m ≡ fresh →
-    w.pending ≡ cond fresh none (pending_of earlier w.client) → (fresh ≡ true → m.changed ≡ none) →
-    union w.pending m.changed ≡ pending_of (m ∷ earlier) w.client
+    w.pending ≡ cond fresh none (pending_of earlier w.client) → (fresh ≡ true → news_in m w ≡ none) →
+    union w.pending (news_in m w) ≡ pending_of (m ∷ earlier) w.client
 grown_by_history m earlier w true silent f was quiet = set_ext _ _ (λ x.
-    contains-set_of (λ y. contains w.pending y || contains m.changed y) x
-    ∙ ap (λ b. b || contains m.changed x) (ap (λ s. contains s x) was ∙ contains-set_of (λ _. false) x)
+    contains-set_of (λ y. contains w.pending y || contains (news_in m w) y) x
+    ∙ ap (λ b. b || contains (news_in m w) x) (ap (λ s. contains s x) was ∙ contains-set_of (λ _. false) x)
     ∙ ap (λ s. contains s x) (quiet refl) ∙ contains-set_of (λ _. false) x
     ∙ sym (contains-set_of (is_pending (m ∷ earlier) w.client) x ∙ pending_more m earlier w.client x true _ f refl))
 grown_by_history m earlier w false silent f was quiet = set_ext _ _ (λ x.
-    contains-set_of (λ y. contains w.pending y || contains m.changed y) x
-    ∙ ap (λ b. b || contains m.changed x) (ap (λ s. contains s x) was ∙ contains-set_of (is_pending earlier w.client) x)
-    ∙ or_comm_false (is_pending earlier w.client x) (contains m.changed x)
+    contains-set_of (λ y. contains w.pending y || contains (news_in m w) y) x
+    ∙ ap (λ b. b || contains (news_in m w) x) (ap (λ s. contains s x) was ∙ contains-set_of (is_pending earlier w.client) x)
+    ∙ or_comm_false (is_pending earlier w.client x) (contains (news_in m w) x)
     ∙ sym (contains-set_of (is_pending (m ∷ earlier) w.client) x
     ∙ pending_more m earlier w.client x false false f (ap (list_any (λ r. (r.client == w.client) && contains r.changed x)) silent)))
 
@@ -287,12 +294,12 @@ one_told so_far changed w (Some mask) waits same =
     (ap (λ m. intersection (union w.pending changed) (unwrap_or m none)) waits ∙ ap (λ s. intersection s mask) same)
 
 all_told : (a : Acted) (earlier : List Moment) (ws : List Watched) → AgreeBut (moment_of a) earlier ws →
-    ((c : ℕ) → connects c (moment_of a) ≡ true → a.changed ≡ none) →
-    reports_of (marked ws a.changed) ≡ filter_map (λ w. told_waiting (moment_of a ∷ earlier) w.client w.waiting) ws
+    ((c : ℕ) → connects c (moment_of a) ≡ true → news a.changed a.notified c ≡ none) →
+    reports_of (with_news a.changed a.notified ws) ≡ filter_map (λ w. told_waiting (moment_of a ∷ earlier) w.client w.waiting) ws
 all_told a earlier [] agree quiet = refl
 all_told a earlier (w ∷ ws) agree quiet =
-    ap (λ o. cons_option o (reports_of (marked ws a.changed)))
-    (one_told (moment_of a ∷ earlier) a.changed w w.waiting refl
+    ap (λ o. cons_option o (reports_of (with_news a.changed a.notified ws)))
+    (one_told (moment_of a ∷ earlier) (news a.changed a.notified w.client) w w.waiting refl
     (grown_by_history (moment_of a) earlier w (connects w.client (moment_of a)) refl refl agree.0 (quiet w.client)))
     ∙ ap (cons_option (told_waiting (moment_of a ∷ earlier) w.client w.waiting)) (all_told a earlier ws agree.1 quiet)
 
@@ -304,7 +311,7 @@ holds kept (entry ∷ earlier) =
     let a : Acted = acted (replay kept earlier) entry.event entry.refused in
     let k = keeps_acted (moments kept earlier) (replay kept earlier) entry.event entry.refused before.rises before.agree in
     record {
-      rises = rises_after a.after.clients a.changed k.rises;
+      rises = rises_after a.after.clients a.changed a.notified k.rises;
       agree = agree_after (record (moment_of a) { reports = reported_by (moments kept earlier) a }) (moments kept earlier) a.after.clients
           k.rises k.agree k.quiet (sym (all_told a (moments kept earlier) a.after.clients k.agree k.quiet));
     }
@@ -325,5 +332,5 @@ moments_are_the_steps kept earlier entry =
     let before = holds kept earlier in
     let a : Acted = acted (replay kept earlier) entry.event entry.refused in
     let k = keeps_acted (moments kept earlier) (replay kept earlier) entry.event entry.refused before.rises before.agree in
-    ap (λ reports. record { connected = a.connected; changed = a.changed; reports = reports } ∷ moments kept earlier)
+    ap (λ reports. record (moment_of a) { reports = reports } ∷ moments kept earlier)
     (sym (all_told a (moments kept earlier) a.after.clients k.agree k.quiet))

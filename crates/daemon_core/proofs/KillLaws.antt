@@ -15,23 +15,23 @@ use Rattle.command_text.specs.declared.command.settings.SettingsCommand.TheVaria
 use Rattle.command_text.specs.declared.name.CommandName.{CommandName}
 use Rattle.command_text.specs.declared.place.Place.{Place}
 use Rattle.command_text.specs.declared.place.Place.TheVariants.{Alone, InList}
+use Rattle.command_text.specs.declared.refusal.CommandRefusal.{CommandRefusal}
 use Rattle.command_text.specs.declared.refusal.Refusal.{Refusal}
 use Rattle.command_text.specs.declared.request.Request.{Request}
 use Rattle.command_text.specs.declared.request.Request.TheVariants.{Single, List as CommandList, OkList, Noidle}
-use Rattle.idle_masks.specs.Watched.{watched, marked, after_reports}
+use Rattle.idle_masks.specs.Watched.{watched, after_reports}
 use Rattle.idle_masks.specs.declared.subsystem.Subsystems.{Subsystems}
 use Rattle.idle_masks.specs.declared.watch.Watched.{Watched}
-use Rattle.machine_core.specs.Meaning.{Meaning, Meant}
 use Rattle.machine_core.specs.State.{MachineState}
 use Rattle.state_codec.specs.declared.op.Op.{Op}
 use Rattle.daemon_core.specs.Kill.{kills, is_kill, reads_kill, goes_on, comes_to_kill, request_kills, asks_to_kill, ends_daemon}
-use Rattle.daemon_core.specs.Run.{Did, Goes, Refuses, Ends, settings_ending, session_ending, ending_of, did_of, unless_it_ends, performed}
-use Rattle.daemon_core.specs.Run.{read_and_performed, attempted, Ran, wants_memory, follow, is_refused_at, ran}
-use Rattle.daemon_core.specs.Run.{Spent, spent_behind, unspent, within_both}
+use Rattle.daemon_core.specs.Pending.{with_news}
+use Rattle.daemon_core.specs.Run.{Did, Done, Goes, Refuses, Ends, settings_ending, session_ending, ending_of, did_of, unless_it_ends}
+use Rattle.daemon_core.specs.Run.{done_by, performed, read_and_performed, attempted, Ran, wants_memory, follow, is_refused_at, ran}
+use Rattle.daemon_core.specs.Run.{Spent, spent_behind, spent_on}
 use Rattle.daemon_core.specs.Session.{Acted, of_ran, runs}
-use Rattle.daemon_core.specs.Seen.{tags_seen}
 use Rattle.daemon_core.specs.State.{State}
-use Rattle.daemon_core.specs.Step.{connects_client, asked, waits_no_more, is_noidle, requested_by, waiting_of, acted, step}
+use Rattle.daemon_core.specs.Step.{begun, connects_client, asked, waits_no_more, is_noidle, requested_by, waiting_of, acted, step}
 use Rattle.daemon_core.specs.declared.event.Event.{Event}
 use Rattle.daemon_core.specs.declared.event.Event.TheVariants as events
 use Rattle.daemon_core.specs.declared.outcome.Ending.{Ending}
@@ -68,33 +68,33 @@ EndsAs kill (Goes x) = kill ≡ false
 EndsAs kill (Refuses refusal) = kill ≡ false
 EndsAs kill (Ends ending) = kill ≡ is_killed ending
 
-did_ends : (kill : Bool) (name : CommandName) (meant : Meant) → kill ≡ false → EndsAs kill (did_of name meant)
+did_ends : (kill : Bool) (name : CommandName) (does : Result Done CommandRefusal) → kill ≡ false → EndsAs kill (did_of name does)
 did_ends kill name (Ok x) h = h
 did_ends kill name (Err refusal) h = h
 
-unless_ends : (kill : Bool) (ending : Option Ending) (name : CommandName) (meant : Meant) → kill ≡ killed_if ending →
-    EndsAs kill (unless_it_ends ending (did_of name meant))
-unless_ends kill None name meant h = did_ends kill name meant h
-unless_ends kill (Some ending) name meant h = h
+unless_ends : (kill : Bool) (ending : Option Ending) (name : CommandName) (does : Result Done CommandRefusal) → kill ≡ killed_if ending →
+    EndsAs kill (unless_it_ends ending (did_of name does))
+unless_ends kill None name does h = did_ends kill name does h
+unless_ends kill (Some ending) name does h = h
 
-reading_ends : (spent : Spent) (m : MachineState) (reading : Result NamedCommand Refusal) →
-    EndsAs (reads_kill reading) (read_and_performed spent m reading)
+reading_ends : (c : ℕ) (spent : Spent) (m : MachineState) (reading : Result NamedCommand Refusal) →
+    EndsAs (reads_kill reading) (read_and_performed c spent m reading)
 unfolding performed
-reading_ends spent m (Err refusal) = refl
-reading_ends spent m (Ok named) =
-    unless_ends (is_kill named.command) (ending_of named.command) named.name (within_both spent named.command m)
+reading_ends c spent m (Err refusal) = refl
+reading_ends c spent m (Ok named) =
+    unless_ends (is_kill named.command) (ending_of named.command) named.name (done_by c spent named.command m)
     (command_kill named.command)
 
-line_ends : (place : Place) (spent : Spent) (line : List ℕ) (m : MachineState) →
-    EndsAs (reads_kill (line_reading m.saved.profile place line)) (attempted place spent line m)
+line_ends : (c : ℕ) (place : Place) (spent : Spent) (line : List ℕ) (m : MachineState) →
+    EndsAs (reads_kill (line_reading m.saved.profile place line)) (attempted c place spent line m)
 unfolding attempted
-line_ends place spent line m = reading_ends spent m (line_reading m.saved.profile place line)
+line_ends c place spent line m = reading_ends c spent m (line_reading m.saved.profile place line)
 
 -- the commands of a request
 follow_kills : (separator : List ℕ) (index : ℕ) (behind : List Op → Spent) (m : MachineState) (rest : Spent → MachineState → Ran)
     (kill : Bool)
-    (later : Meaning → Bool) (did : Did) → EndsAs kill did →
-    ((x : Meaning) → let r = rest (behind x.ops) x.after in is_killed r.ending ≡ later x) →
+    (later : Done → Bool) (did : Did) → EndsAs kill did →
+    ((x : Done) → let r = rest (spent_on behind x) x.after in is_killed r.ending ≡ later x) →
     let r = follow separator index behind m rest did in is_killed r.ending ≡ (kill || goes_on did later)
 follow_kills separator index behind m rest kill later (Goes x) h same = same x ∙ sym (ap (λ b. b || later x) h)
 follow_kills separator index behind m rest kill later (Refuses refusal) h same = sym (ap (λ b. b || false) h)
@@ -106,18 +106,18 @@ unless_refused : (spent : Spent) (m : MachineState) (index : ℕ) (line : List �
 unless_refused spent m index line r kill true h = refl
 unless_refused spent m index line r kill false h = h
 
-ran_kills : (place : Place) (separator : List ℕ) (refused : Option ℕ) (index : ℕ) (spent : Spent) (lines : List (List ℕ))
+ran_kills : (c : ℕ) (place : Place) (separator : List ℕ) (refused : Option ℕ) (index : ℕ) (spent : Spent) (lines : List (List ℕ))
     (m : MachineState) →
-    let r = ran place separator refused index spent lines m in is_killed r.ending ≡ comes_to_kill place refused index spent lines m
+    let r = ran c place separator refused index spent lines m in is_killed r.ending ≡ comes_to_kill c place refused index spent lines m
 unfolding ran comes_to_kill
-ran_kills place separator refused index spent [] m = refl
-ran_kills place separator refused index spent (line ∷ lines) m =
+ran_kills c place separator refused index spent [] m = refl
+ran_kills c place separator refused index spent (line ∷ lines) m =
     unless_refused spent m index line _ _ (is_refused_at refused index)
-    (follow_kills separator index (spent_behind place line m spent) m (λ n t. ran place separator refused (suc index) n lines t)
+    (follow_kills separator index (spent_behind place line m spent) m (λ n t. ran c place separator refused (suc index) n lines t)
     (reads_kill (line_reading m.saved.profile place line))
-    (λ x. comes_to_kill place refused (suc index) (spent_behind place line m spent x.ops) lines x.after)
-    (attempted place spent line m) (line_ends place spent line m)
-    (λ x. ran_kills place separator refused (suc index) (spent_behind place line m spent x.ops) lines x.after))
+    (λ x. comes_to_kill c place refused (suc index) (spent_on (spent_behind place line m spent) x) lines x.after)
+    (attempted c place spent line m) (line_ends c place spent line m)
+    (λ x. ran_kills c place separator refused (suc index) (spent_on (spent_behind place line m spent) x) lines x.after))
 
 -- and so the event
 of_ran_ends : (c : ℕ) (s : State) (r : Ran) (ending : Ending) → let a = of_ran c s r ending in a.ended ≡ is_killed ending
@@ -127,16 +127,16 @@ of_ran_ends c s r Killed = refl
 of_ran_ends c s r (Waits mask) = refl
 
 asked_ends : (c : ℕ) (refused : Option ℕ) (s : State) (request : Request) →
-    let a = asked c refused s request in a.ended ≡ request_kills refused (unspent s.machine (tags_seen s.masks c)) s.machine request
+    let a = asked c refused s request in a.ended ≡ request_kills c refused (begun c s) s.machine request
 asked_ends c refused s (Single line) =
-    let r : Ran = ran Alone [] refused 0 (unspent s.machine (tags_seen s.masks c)) (line ∷ []) s.machine in
-    of_ran_ends c s r r.ending ∙ ran_kills Alone [] refused 0 (unspent s.machine (tags_seen s.masks c)) (line ∷ []) s.machine
+    let r : Ran = ran c Alone [] refused 0 (begun c s) (line ∷ []) s.machine in
+    of_ran_ends c s r r.ending ∙ ran_kills c Alone [] refused 0 (begun c s) (line ∷ []) s.machine
 asked_ends c refused s (CommandList lines) =
-    let r : Ran = ran InList [] refused 0 (unspent s.machine (tags_seen s.masks c)) lines s.machine in
-    of_ran_ends c s r r.ending ∙ ran_kills InList [] refused 0 (unspent s.machine (tags_seen s.masks c)) lines s.machine
+    let r : Ran = ran c InList [] refused 0 (begun c s) lines s.machine in
+    of_ran_ends c s r r.ending ∙ ran_kills c InList [] refused 0 (begun c s) lines s.machine
 asked_ends c refused s (OkList lines) =
-    let r : Ran = ran InList list_ok refused 0 (unspent s.machine (tags_seen s.masks c)) lines s.machine in
-    of_ran_ends c s r r.ending ∙ ran_kills InList list_ok refused 0 (unspent s.machine (tags_seen s.masks c)) lines s.machine
+    let r : Ran = ran c InList list_ok refused 0 (begun c s) lines s.machine in
+    of_ran_ends c s r r.ending ∙ ran_kills c InList list_ok refused 0 (begun c s) lines s.machine
 asked_ends c refused s Noidle = refl
 
 waiting_ends : (noidle : Bool) (c : ℕ) (s : State) → let a = waits_no_more noidle c s in a.ended ≡ false
@@ -182,12 +182,10 @@ runs_empty : (c : ℕ) (s : State) (r : Ran) → Empties (runs c s r)
 runs_empty c s r = ran_empties c s r r.ending
 
 asked_empties : (c : ℕ) (refused : Option ℕ) (s : State) (request : Request) → Empties (asked c refused s request)
-asked_empties c refused s (Single line) = runs_empty c s (ran Alone [] refused 0 (unspent s.machine (tags_seen s.masks c))
+asked_empties c refused s (Single line) = runs_empty c s (ran c Alone [] refused 0 (begun c s)
     (line ∷ []) s.machine)
-asked_empties c refused s (CommandList lines) = runs_empty c s (ran InList [] refused 0 (unspent s.machine
-    (tags_seen s.masks c)) lines s.machine)
-asked_empties c refused s (OkList lines) = runs_empty c s (ran InList list_ok refused 0 (unspent s.machine
-    (tags_seen s.masks c)) lines s.machine)
+asked_empties c refused s (CommandList lines) = runs_empty c s (ran c InList [] refused 0 (begun c s) lines s.machine)
+asked_empties c refused s (OkList lines) = runs_empty c s (ran c InList list_ok refused 0 (begun c s) lines s.machine)
 asked_empties c refused s Noidle = λ h. absurd (false≢true h)
 
 goes_on_empties : (a : Acted) → a.ended ≡ false → Empties a
@@ -217,4 +215,4 @@ pub step_empties : (s : State) (event : Event) (refused : Option ℕ) → (step 
 unfolding step
 step_empties s event refused h =
     let a : Acted = acted s event refused in
-    ap (λ ws. after_reports (marked ws a.changed)) (acted_empties s event refused h)
+    ap (λ ws. after_reports (with_news a.changed a.notified ws)) (acted_empties s event refused h)

@@ -12,7 +12,7 @@ use Rattle.command_text.specs.declared.place.Place.TheVariants.{Alone, InList}
 use Rattle.command_text.specs.declared.request.Request.{Request}
 use Rattle.command_text.specs.declared.request.Request.TheVariants.{Single, List as CommandList, OkList, Noidle}
 use Rattle.idle_masks.specs.Subsystems.{is_empty}
-use Rattle.idle_masks.specs.Watched.{newcomer, watched, joined, left, with_waiting, grown, marked, due, after_reports}
+use Rattle.idle_masks.specs.Watched.{newcomer, watched, joined, left, with_waiting, grown, due, after_reports}
 use Rattle.idle_masks.specs.declared.subsystem.Subsystems.{Subsystems}
 use Rattle.idle_masks.specs.declared.watch.Watched.{Watched}
 use Rattle.machine_core.specs.Happening.{Happening}
@@ -21,12 +21,12 @@ use Rattle.machine_core.specs.Scanning.{when_found, when_scanned}
 use Rattle.state_codec.specs.SavedState.{SavedState}
 use Rattle.daemon_core.specs.Agreement.{Rises}
 use Rattle.daemon_core.specs.Leaving.{is_one_of, missing, still_there, with_newcomer, there, ClosesNoOther}
+use Rattle.daemon_core.specs.Pending.{news, with_news}
 use Rattle.daemon_core.specs.Replay.{Entry, stepped, replay}
-use Rattle.daemon_core.specs.Run.{Ran, ran, unspent}
+use Rattle.daemon_core.specs.Run.{Ran, ran}
 use Rattle.daemon_core.specs.Session.{Acted, happened, numbers_of, of_ran, runs}
-use Rattle.daemon_core.specs.Seen.{tags_seen}
 use Rattle.daemon_core.specs.State.{State}
-use Rattle.daemon_core.specs.Step.{connects_client, asked, waits_no_more, is_noidle, requested_by, waiting_of, acted, step}
+use Rattle.daemon_core.specs.Step.{begun, connects_client, asked, waits_no_more, is_noidle, requested_by, waiting_of, acted, step}
 use Rattle.daemon_core.specs.declared.event.Event.{Event}
 use Rattle.daemon_core.specs.declared.event.Event.TheVariants as events
 use Rattle.daemon_core.specs.declared.outcome.Ending.{Ending}
@@ -70,7 +70,7 @@ one_of_kept p c n ns true false h k rest =
 one_of_kept p c n ns false true h k rest = ap (λ b. b || is_one_of (filter p ns) c) h ∙ rest
 one_of_kept p c n ns false false h k rest = rest
 
-one_of-filter : (p : ℕ → Bool) (c : ℕ) (ns : List ℕ) → is_one_of (filter p ns) c ≡ (is_one_of ns c && p c)
+pub one_of-filter : (p : ℕ → Bool) (c : ℕ) (ns : List ℕ) → is_one_of (filter p ns) c ≡ (is_one_of ns c && p c)
 one_of-filter p c [] = refl
 one_of-filter p c (n ∷ ns) =
     one_of_kept p c n ns (c == n) (p n) refl refl (one_of-filter p c ns)
@@ -90,23 +90,25 @@ one_number : (w : Watched) (ws : List Watched) (keep : Bool) →
 one_number w ws true = refl
 one_number w ws false = refl
 
-numbers-filter : (p : ℕ → Bool) (ws : List Watched) → numbers_of (filter (λ w. p w.client) ws) ≡ filter p (numbers_of ws)
+pub numbers-filter : (p : ℕ → Bool) (ws : List Watched) → numbers_of (filter (λ w. p w.client) ws) ≡ filter p (numbers_of ws)
 numbers-filter p [] = refl
 numbers-filter p (w ∷ ws) =
     one_number w (filter (λ v. p v.client) ws) (p w.client)
     ∙ ap (λ ns. cond (p w.client) (w.client ∷ ns) ns) (numbers-filter p ws)
 
-numbers_after : (ws : List Watched) (changed : Subsystems) → numbers_of (after_reports (marked ws changed)) ≡ numbers_of ws
-numbers_after [] changed = refl
-numbers_after (w ∷ ws) changed =
-    λ i. client-reported (grown changed w) (is_empty (due (grown changed w))) i ∷ numbers_after ws changed i
+pub numbers_after : (ws : List Watched) (changed : Subsystems) (notified : List ℕ) →
+    numbers_of (after_reports (with_news changed notified ws)) ≡ numbers_of ws
+numbers_after [] changed notified = refl
+numbers_after (w ∷ ws) changed notified =
+    let g : Watched = grown (news changed notified w.client) w in
+    λ i. client-reported g (is_empty (due g)) i ∷ numbers_after ws changed notified i
 
 waiting_number : (c : ℕ) (mask : Option Subsystems) (w : Watched) (b : Bool) →
     let v = cond b (record w { waiting = mask }) w in v.client ≡ w.client
 waiting_number c mask w true = refl
 waiting_number c mask w false = refl
 
-numbers_waiting : (c : ℕ) (mask : Option Subsystems) (ws : List Watched) → numbers_of (with_waiting ws c mask) ≡ numbers_of ws
+pub numbers_waiting : (c : ℕ) (mask : Option Subsystems) (ws : List Watched) → numbers_of (with_waiting ws c mask) ≡ numbers_of ws
 numbers_waiting c mask [] = refl
 numbers_waiting c mask (w ∷ ws) = λ i. waiting_number c mask w (w.client == c) i ∷ numbers_waiting c mask ws i
 
@@ -171,7 +173,7 @@ apart n c false false true l s m = refl
 apart n c false false false l s m =
     absurd (eqb-false n c s (omega (arith, ltb-false n c l, ltb-false c n m)))
 
-stays_with : (c : ℕ) (all ns : List ℕ) → AllByRecursion (λ n. is_one_of all n ≡ true) ns →
+pub stays_with : (c : ℕ) (all ns : List ℕ) → AllByRecursion (λ n. is_one_of all n ≡ true) ns →
     AllByRecursion (λ n. is_one_of (filter (λ d. nat_lt d c) all ++ c ∷ filter (λ d. nat_lt c d) all) n ≡ true) ns
 stays_with c all [] h = tt
 stays_with c all (n ∷ ns) h = (
@@ -182,7 +184,7 @@ stays_with c all (n ∷ ns) h = (
   stays_with c all ns h.1,
 )
 
-numbers_joined : (ws : List Watched) (c : ℕ) →
+pub numbers_joined : (ws : List Watched) (c : ℕ) →
     numbers_of (joined ws c) ≡ filter (λ d. nat_lt d c) (numbers_of ws) ++ c ∷ filter (λ d. nat_lt c d) (numbers_of ws)
 numbers_joined ws c =
     map-append (λ (w : Watched). w.client) (filter (λ w. nat_lt w.client c) ws) (newcomer c ∷ filter (λ w. nat_lt c w.client) ws)
@@ -225,13 +227,13 @@ ran_leaves c s r (Waits mask) rises known =
 asked_leaves : (c : ℕ) (refused : Option ℕ) (s : State) (request : Request) → Rises s.clients → is_some (watched s.clients c) ≡ true →
     Leaves s.clients s.clients (asked c refused s request)
 asked_leaves c refused s (Single line) rises known =
-    let r : Ran = ran Alone [] refused 0 (unspent s.machine (tags_seen s.masks c)) (line ∷ []) s.machine in
+    let r : Ran = ran c Alone [] refused 0 (begun c s) (line ∷ []) s.machine in
     ran_leaves c s r r.ending rises known
 asked_leaves c refused s (CommandList lines) rises known =
-    let r : Ran = ran InList [] refused 0 (unspent s.machine (tags_seen s.masks c)) lines s.machine in
+    let r : Ran = ran c InList [] refused 0 (begun c s) lines s.machine in
     ran_leaves c s r r.ending rises known
 asked_leaves c refused s (OkList lines) rises known =
-    let r : Ran = ran InList list_ok refused 0 (unspent s.machine (tags_seen s.masks c)) lines s.machine in
+    let r : Ran = ran c InList list_ok refused 0 (begun c s) lines s.machine in
     ran_leaves c s r r.ending rises known
 asked_leaves c refused s Noidle rises known = all_stay s.clients (asked c refused s Noidle) refl refl
 
@@ -283,7 +285,7 @@ closed kept history entry =
     let a : Acted = acted (replay kept history) entry.event entry.refused in
     let leaves = acted_leaves (replay kept history) entry.event entry.refused before.rises in
     leaves.closed ∙ ap (missing (numbers_of (still_there entry.event (replay kept history).clients)))
-    (sym (numbers_after a.after.clients a.changed))
+    (sym (numbers_after a.after.clients a.changed a.notified))
 
 pub stay : (kept : SavedState) (history : List Entry) (entry : Entry) →
     numbers_of (stepped (replay kept history) entry).after.clients ≡ missing
@@ -294,7 +296,7 @@ stay kept history entry =
     let before = holds kept history in
     let a : Acted = acted (replay kept history) entry.event entry.refused in
     let leaves = acted_leaves (replay kept history) entry.event entry.refused before.rises in
-    numbers_after a.after.clients a.changed ∙ leaves.stay
+    numbers_after a.after.clients a.changed a.notified ∙ leaves.stay
 
 -- Where the daemon goes on, no client is closed but the one that asks.
 abbrev ClosesOwn : ℕ → Acted → Type 0
@@ -310,9 +312,9 @@ runs_close : (c : ℕ) (s : State) (r : Ran) → ClosesOwn c (runs c s r)
 runs_close c s r = ran_closes c s r r.ending
 
 asked_closes : (c : ℕ) (refused : Option ℕ) (s : State) (request : Request) → ClosesOwn c (asked c refused s request)
-asked_closes c refused s (Single line) = runs_close c s (ran Alone [] refused 0 (unspent s.machine (tags_seen s.masks c)) (line ∷ []) s.machine)
-asked_closes c refused s (CommandList lines) = runs_close c s (ran InList [] refused 0 (unspent s.machine (tags_seen s.masks c)) lines s.machine)
-asked_closes c refused s (OkList lines) = runs_close c s (ran InList list_ok refused 0 (unspent s.machine (tags_seen s.masks c)) lines s.machine)
+asked_closes c refused s (Single line) = runs_close c s (ran c Alone [] refused 0 (begun c s) (line ∷ []) s.machine)
+asked_closes c refused s (CommandList lines) = runs_close c s (ran c InList [] refused 0 (begun c s) lines s.machine)
+asked_closes c refused s (OkList lines) = runs_close c s (ran c InList list_ok refused 0 (begun c s) lines s.machine)
 asked_closes c refused s Noidle = λ h. inl refl
 
 waiting_closes : (noidle : Bool) (c : ℕ) (s : State) → ClosesOwn c (waits_no_more noidle c s)

@@ -1,4 +1,6 @@
 pub mod PendingLaws
+pub mod DoneLaws
+pub mod TalkLaws
 pub mod HistoryLaws
 pub mod ReachedLaws
 pub mod RebuildLaws
@@ -20,3 +22,4 @@ mod SoundLaws
 mod SongForms
 mod SongLaws
 mod SeenLaws
+mod ListenerLaws

@@ -14,11 +14,10 @@ use Rattle.machine_core.specs.Looks.{looked, max_looks}
 use Rattle.machine_core.specs.State.{MachineState}
 use Rattle.state_codec.specs.declared.op.Op.{Op}
 use Rattle.daemon_core.specs.Run.{Did, Goes, Refuses, Ends, Ran, Spent, attempted, follow, is_refused_at, looks_of_line, ran, spent_behind}
-use Rattle.daemon_core.specs.Run.{unspent, wants_memory}
+use Rattle.daemon_core.specs.Run.{spent_on, wants_memory}
 use Rattle.daemon_core.specs.Session.{of_ran, runs}
-use Rattle.daemon_core.specs.Seen.{tags_seen}
 use Rattle.daemon_core.specs.State.{State}
-use Rattle.daemon_core.specs.Step.{acted, asked, connects_client, is_noidle, requested_by, step, waiting_of, waits_no_more}
+use Rattle.daemon_core.specs.Step.{acted, asked, begun, connects_client, is_noidle, requested_by, step, waiting_of, waits_no_more}
 use Rattle.daemon_core.specs.declared.event.Event.{Event}
 use Rattle.daemon_core.specs.declared.event.Event.TheVariants as events
 use Rattle.daemon_core.specs.declared.outcome.Ending.{Ending}
@@ -39,7 +38,7 @@ RestWithin rest = (n : Spent) (t : MachineState) → n.looks ≤ max_looks → (
 follow_within : (separator : List ℕ) (index : ℕ) (behind : List Op → Spent) (m : MachineState) (rest : Spent → MachineState → Ran)
     (d : Did) → ((ops : List Op) → (let n = behind ops in n.looks ≤ max_looks)) → RestWithin rest →
     let r = follow separator index behind m rest d in r.looks ≤ max_looks
-follow_within separator index behind m rest (Goes x) within later = later (behind x.ops) x.after (within x.ops)
+follow_within separator index behind m rest (Goes x) within later = later (spent_on behind x) x.after (within x.ops)
 follow_within separator index behind m rest (Refuses refusal) within later = within []
 follow_within separator index behind m rest (Ends ending) within later = within []
 
@@ -48,16 +47,16 @@ unless_refused : (spent : Spent) (m : MachineState) (index : ℕ) (line : List �
 unless_refused spent m index line r true within = omega arith
 unless_refused spent m index line r false within = within
 
-ran_within : (place : Place) (separator : List ℕ) (refused : Option ℕ) (index : ℕ) (spent : Spent) (lines : List (List ℕ))
+ran_within : (c : ℕ) (place : Place) (separator : List ℕ) (refused : Option ℕ) (index : ℕ) (spent : Spent) (lines : List (List ℕ))
     (m : MachineState) →
-    spent.looks ≤ max_looks → let r = ran place separator refused index spent lines m in r.looks ≤ max_looks
+    spent.looks ≤ max_looks → let r = ran c place separator refused index spent lines m in r.looks ≤ max_looks
 unfolding ran
-ran_within place separator refused index spent [] m within = within
-ran_within place separator refused index spent (line ∷ lines) m within =
+ran_within c place separator refused index spent [] m within = within
+ran_within c place separator refused index spent (line ∷ lines) m within =
     unless_refused spent m index line _ (is_refused_at refused index)
-    (follow_within separator index (spent_behind place line m spent) m (λ n t. ran place separator refused (suc index) n lines t)
-    (attempted place spent line m) (λ ops. looked_within spent.looks (looks_of_line place line m) within)
-    (λ n t fits. ran_within place separator refused (suc index) n lines t fits))
+    (follow_within separator index (spent_behind place line m spent) m (λ n t. ran c place separator refused (suc index) n lines t)
+    (attempted c place spent line m) (λ ops. looked_within spent.looks (looks_of_line place line m) within)
+    (λ n t fits. ran_within c place separator refused (suc index) n lines t fits))
 
 of_ran_within : (c : ℕ) (s : State) (r : Ran) (ending : Ending) → r.looks ≤ max_looks → let a = of_ran c s r ending in a.looks ≤ max_looks
 of_ran_within c s r Answered within = within
@@ -69,12 +68,10 @@ runs_within : (c : ℕ) (s : State) (r : Ran) → r.looks ≤ max_looks → let 
 runs_within c s r within = of_ran_within c s r r.ending within
 
 asked_within : (c : ℕ) (refused : Option ℕ) (s : State) (request : Request) → let a = asked c refused s request in a.looks ≤ max_looks
-asked_within c refused s (Single line) = runs_within c s _ (ran_within Alone [] refused 0 (unspent s.machine (tags_seen s.masks c))
+asked_within c refused s (Single line) = runs_within c s _ (ran_within c Alone [] refused 0 (begun c s)
     (line ∷ []) s.machine (omega arith))
-asked_within c refused s (CommandList lines) = runs_within c s _ (ran_within InList [] refused 0 (unspent s.machine
-    (tags_seen s.masks c)) lines s.machine (omega arith))
-asked_within c refused s (OkList lines) = runs_within c s _ (ran_within InList list_ok refused 0 (unspent s.machine
-    (tags_seen s.masks c)) lines s.machine (omega arith))
+asked_within c refused s (CommandList lines) = runs_within c s _ (ran_within c InList [] refused 0 (begun c s) lines s.machine (omega arith))
+asked_within c refused s (OkList lines) = runs_within c s _ (ran_within c InList list_ok refused 0 (begun c s) lines s.machine (omega arith))
 asked_within c refused s Noidle = omega arith
 
 waits_within : (noidle : Bool) (c : ℕ) (s : State) → let a = waits_no_more noidle c s in a.looks ≤ max_looks

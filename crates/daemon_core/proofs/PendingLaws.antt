@@ -6,13 +6,13 @@ use Rattle.std.proofs.lemmas.Bool.{ne_eqb}
 use Rattle.std.proofs.Math.Bool.{or-false}
 use Rattle.idle_masks.specs.declared.subsystem.Subsystem.{Subsystem}
 use Rattle.idle_masks.specs.declared.subsystem.Subsystem.TheVariants.{Database, Update, StoredPlaylist, Playlist, Player, Mixer, Options}
-use Rattle.idle_masks.specs.declared.subsystem.Subsystem.TheVariants.{Sticker}
+use Rattle.idle_masks.specs.declared.subsystem.Subsystem.TheVariants.{Sticker, Subscription, Message}
 use Rattle.idle_masks.specs.declared.subsystem.Subsystems.{Subsystems}
 use Rattle.idle_masks.specs.declared.watch.Watched.{Watched}
 use Rattle.idle_masks.specs.declared.ready.Report.{Report}
-use Rattle.idle_masks.specs.Subsystems.{contains, set_of, none, difference, is_empty}
-use Rattle.idle_masks.specs.Watched.{grown, marked, due, reported, reports_of, after_reports}
-use Rattle.daemon_core.specs.Pending.{Moment, connects, reports_to, since, is_pending, pending_of}
+use Rattle.idle_masks.specs.Subsystems.{contains, set_of, none, only, union, difference, is_empty}
+use Rattle.idle_masks.specs.Watched.{grown, marked, marked_some, nat_among, due, reported, reports_of, after_reports}
+use Rattle.daemon_core.specs.Pending.{Moment, connects, reports_to, since, is_pending, news, pending_of, touches, with_news}
 use Rattle.daemon_core.specs.Agreement.{Rises, Agree, AgreeBut}
 
 -- a set made by a test has what passes it
@@ -25,6 +25,8 @@ contains-set_of f Player = refl
 contains-set_of f Mixer = refl
 contains-set_of f Options = refl
 contains-set_of f Sticker = refl
+contains-set_of f Subscription = refl
+contains-set_of f Message = refl
 
 -- sets that have the same subsystems are equal
 pub set_ext : (s t : Subsystems) → ((x : Subsystem) → contains s x ≡ contains t x) → s ≡ t
@@ -37,6 +39,8 @@ set_ext s t same = λ i. record {
   mixer = same Mixer i;
   options = same Options i;
   sticker = same Sticker i;
+  subscription = same Subscription i;
+  message = same Message i;
 }
 
 -- nothing is in a set whose test is false
@@ -54,6 +58,8 @@ contains-empty s x h =
     let f = not_or_true _ _ e.1 in
     let g = not_or_true _ _ f.1 in
     let k = not_or_true _ _ g.1 in
+    let l = not_or_true _ _ k.1 in
+    let n = not_or_true _ _ l.1 in
     elim x as (λ v. contains s v ≡ false) [
       | Database ↦ a.0
       | Update ↦ b.0
@@ -63,6 +69,8 @@ contains-empty s x h =
       | Mixer ↦ f.0
       | Options ↦ g.0
       | Sticker ↦ k.0
+      | Subscription ↦ l.0
+      | Message ↦ n.0
     ]
 
 -- the report to a client says what was due to it
@@ -118,15 +126,15 @@ reports_are_due x (w ∷ ws) h = (
 -- one moment more
 pub pending_more : (m : Moment) (earlier : List Moment) (c : ℕ) (x : Subsystem) (fresh told : Bool) →
     connects c m ≡ fresh → reports_to c x m ≡ told →
-    is_pending (m ∷ earlier) c x ≡ cond fresh false (cond told false (contains m.changed x || is_pending earlier c x))
+    is_pending (m ∷ earlier) c x ≡ cond fresh false (cond told false (touches c x m || is_pending earlier c x))
 pending_more m earlier c x true told f t =
-    ap (λ b. list_any (λ n. contains n.changed x) (since (reports_to c x) (cond b [] (m ∷ since (connects c) earlier)))) f
+    ap (λ b. list_any (touches c x) (since (reports_to c x) (cond b [] (m ∷ since (connects c) earlier)))) f
 pending_more m earlier c x false true f t =
-    ap (λ b. list_any (λ n. contains n.changed x) (since (reports_to c x) (cond b [] (m ∷ since (connects c) earlier)))) f
-    ∙ ap (λ b. list_any (λ n. contains n.changed x) (cond b [] (m ∷ since (reports_to c x) (since (connects c) earlier)))) t
+    ap (λ b. list_any (touches c x) (since (reports_to c x) (cond b [] (m ∷ since (connects c) earlier)))) f
+    ∙ ap (λ b. list_any (touches c x) (cond b [] (m ∷ since (reports_to c x) (since (connects c) earlier)))) t
 pending_more m earlier c x false false f t =
-    ap (λ b. list_any (λ n. contains n.changed x) (since (reports_to c x) (cond b [] (m ∷ since (connects c) earlier)))) f
-    ∙ ap (λ b. list_any (λ n. contains n.changed x) (cond b [] (m ∷ since (reports_to c x) (since (connects c) earlier)))) t
+    ap (λ b. list_any (touches c x) (since (reports_to c x) (cond b [] (m ∷ since (connects c) earlier)))) f
+    ∙ ap (λ b. list_any (touches c x) (cond b [] (m ∷ since (reports_to c x) (since (connects c) earlier)))) t
 
 -- what stays pending after a report
 and_not_false : (a b : Bool) → b ≡ false → a ≡ (a && not b)
@@ -138,6 +146,10 @@ contains-reported : (g : Watched) (x : Subsystem) (empty : Bool) → is_empty (d
     contains after.pending x ≡ (contains g.pending x && not (contains (due g) x))
 contains-reported g x true h = and_not_false (contains g.pending x) (contains (due g) x) (contains-empty (due g) x h)
 contains-reported g x false h = contains-set_of (λ y. contains g.pending y && not (contains (due g) y)) x
+
+-- what a moment makes pending for a client
+abbrev news_in : Moment → Watched → Subsystems
+news_in m w = news m.changed m.notified w.client
 
 -- the two ways to add a change and take off a report
 grown_is_pending : (was changed told : Bool) → ((was || changed) && not told) ≡ cond told false (changed || was)
@@ -152,29 +164,29 @@ grown_is_pending false false false = refl
 
 one_after : (m : Moment) (earlier : List Moment) (w : Watched) (x : Subsystem) (fresh : Bool) → connects w.client m ≡ fresh →
     w.pending ≡ cond fresh none (pending_of earlier w.client) →
-    (fresh ≡ true → m.changed ≡ none) →
-    reports_to w.client x m ≡ contains (due (grown m.changed w)) x →
-    ((contains w.pending x || contains m.changed x) && not (contains (due (grown m.changed w)) x)) ≡ is_pending (m ∷ earlier) w.client x
+    (fresh ≡ true → news_in m w ≡ none) →
+    reports_to w.client x m ≡ contains (due (grown (news_in m w) w)) x →
+    ((contains w.pending x || contains (news_in m w) x) && not (contains (due (grown (news_in m w) w)) x)) ≡ is_pending (m ∷ earlier) w.client x
 one_after m earlier w x true f was quiet reports =
-    ap (λ b. (b || contains m.changed x) && not (contains (due (grown m.changed w)) x))
+    ap (λ b. (b || contains (news_in m w) x) && not (contains (due (grown (news_in m w) w)) x))
     (ap (λ s. contains s x) was ∙ contains-set_of (λ _. false) x)
-    ∙ ap (λ b. b && not (contains (due (grown m.changed w)) x)) (ap (λ s. contains s x) (quiet refl) ∙ contains-set_of (λ _. false) x)
+    ∙ ap (λ b. b && not (contains (due (grown (news_in m w) w)) x)) (ap (λ s. contains s x) (quiet refl) ∙ contains-set_of (λ _. false) x)
     ∙ sym (pending_more m earlier w.client x true _ f refl)
 one_after m earlier w x false f was quiet reports =
-    ap (λ b. (b || contains m.changed x) && not (contains (due (grown m.changed w)) x))
+    ap (λ b. (b || contains (news_in m w) x) && not (contains (due (grown (news_in m w) w)) x))
     (ap (λ s. contains s x) was ∙ contains-set_of (is_pending earlier w.client) x)
-    ∙ grown_is_pending (is_pending earlier w.client x) (contains m.changed x) (contains (due (grown m.changed w)) x)
+    ∙ grown_is_pending (is_pending earlier w.client x) (contains (news_in m w) x) (contains (due (grown (news_in m w) w)) x)
     ∙ sym (pending_more m earlier w.client x false _ f reports)
 
 -- a client's set after the event's changes were marked and its reports were taken off
 set_after : (m : Moment) (earlier : List Moment) (w : Watched) →
     w.pending ≡ cond (connects w.client m) none (pending_of earlier w.client) →
-    (connects w.client m ≡ true → m.changed ≡ none) →
-    ((x : Subsystem) → reports_to w.client x m ≡ contains (due (grown m.changed w)) x) →
-    let after = reported (grown m.changed w) in after.pending ≡ pending_of (m ∷ earlier) w.client
+    (connects w.client m ≡ true → news_in m w ≡ none) →
+    ((x : Subsystem) → reports_to w.client x m ≡ contains (due (grown (news_in m w) w)) x) →
+    let after = reported (grown (news_in m w) w) in after.pending ≡ pending_of (m ∷ earlier) w.client
 set_after m earlier w was quiet reports = set_ext _ _ (λ x.
-    contains-reported (grown m.changed w) x (is_empty (due (grown m.changed w))) refl
-    ∙ ap (λ b. b && not (contains (due (grown m.changed w)) x)) (contains-set_of (λ y. contains w.pending y || contains m.changed y) x)
+    contains-reported (grown (news_in m w) w) x (is_empty (due (grown (news_in m w) w))) refl
+    ∙ ap (λ b. b && not (contains (due (grown (news_in m w) w)) x)) (contains-set_of (λ y. contains w.pending y || contains (news_in m w) y) x)
     ∙ one_after m earlier w x (connects w.client m) refl was quiet (reports x)
     ∙ sym (contains-set_of (is_pending (m ∷ earlier) w.client) x))
 
@@ -184,31 +196,59 @@ pub client-reported : (g : Watched) (empty : Bool) →
 client-reported g true = refl
 client-reported g false = refl
 
--- marking keeps the numbers
-rises-marked : (ws : List Watched) (changed : Subsystems) → Rises ws → Rises (marked ws changed)
-rises-marked [] changed h = tt
-rises-marked (w ∷ ws) changed h = (above ws h.0, rises-marked ws changed h.1)
+-- what becomes pending keeps the numbers
+rises-news : (ws : List Watched) (changed : Subsystems) (notified : List ℕ) → Rises ws → Rises (with_news changed notified ws)
+rises-news [] changed notified h = tt
+rises-news (w ∷ ws) changed notified h = (above ws h.0, rises-news ws changed notified h.1)
   where
     above : (vs : List Watched) → AllByRecursion (λ v. w.client < v.client) vs →
-        AllByRecursion (λ v. w.client < v.client) (marked vs changed)
+        AllByRecursion (λ v. w.client < v.client) (with_news changed notified vs)
     above [] a = tt
     above (v ∷ vs) a = (a.0, above vs a.1)
 
+abbrev after_moment : Moment → List Watched → List Watched
+after_moment m ws = with_news m.changed m.notified ws
+
 -- the clients after an event agree with what happened, that event included
 pub agree_after : (m : Moment) (earlier : List Moment) (ws : List Watched) → Rises ws → AgreeBut m earlier ws →
-    ((c : ℕ) → connects c m ≡ true → m.changed ≡ none) →
-    m.reports ≡ reports_of (marked ws m.changed) → Agree (m ∷ earlier) (after_reports (marked ws m.changed))
+    ((c : ℕ) → connects c m ≡ true → news m.changed m.notified c ≡ none) →
+    m.reports ≡ reports_of (after_moment m ws) → Agree (m ∷ earlier) (after_reports (after_moment m ws))
 agree_after m earlier ws rises agree quiet reports =
-    each ws agree (λ x. reports_are_due x (marked ws m.changed) (rises-marked ws m.changed rises))
+    each ws agree (λ x. reports_are_due x (after_moment m ws) (rises-news ws m.changed m.notified rises))
   where
     each : (vs : List Watched) → AgreeBut m earlier vs →
         ((x : Subsystem) → AllByRecursion (λ w. list_any (λ r. (r.client == w.client) && contains r.changed x)
-        (reports_of (marked ws m.changed)) ≡ contains (due w) x) (marked vs m.changed)) →
-        Agree (m ∷ earlier) (after_reports (marked vs m.changed))
+        (reports_of (after_moment m ws)) ≡ contains (due w) x) (after_moment m vs)) →
+        Agree (m ∷ earlier) (after_reports (after_moment m vs))
     each [] a told = tt
     each (v ∷ vs) a told = (
       set_after m earlier v a.0 (quiet v.client) (λ x. ap (list_any (λ r. (r.client == v.client) && contains r.changed x)) reports
           ∙ let t = told x in t.0)
-          ∙ ap (pending_of (m ∷ earlier)) (sym (client-reported (grown m.changed v) (is_empty (due (grown m.changed v))))),
+          ∙ ap (pending_of (m ∷ earlier)) (sym (client-reported (grown (news_in m v) v) (is_empty (due (grown (news_in m v) v))))),
       each vs a.1 (λ x. let t = told x in t.1),
     )
+
+-- Sets of subsystems join in any grouping.
+or_assoc : (a b c : Bool) → ((a || b) || c) ≡ (a || (b || c))
+or_assoc true b c = refl
+or_assoc false b c = refl
+
+pub union_assoc : (a b c : Subsystems) → union (union a b) c ≡ union a (union b c)
+union_assoc a b c = set_ext _ _ (λ x.
+    contains-set_of (λ y. contains (union a b) y || contains c y) x
+    ∙ ap (λ v. v || contains c x) (contains-set_of (λ y. contains a y || contains b y) x)
+    ∙ or_assoc (contains a x) (contains b x) (contains c x)
+    ∙ ap (λ v. contains a x || v) (sym (contains-set_of (λ y. contains b y || contains c y) x))
+    ∙ sym (contains-set_of (λ y. contains a y || contains (union b c) y) x))
+
+-- what is marked for all, and `message` for those that are notified, is what is news
+one_marked : (w : Watched) (changed : Subsystems) (among : Bool) →
+    cond among (grown (only Message) (grown changed w)) (grown changed w) ≡ grown (cond among (union changed (only Message)) changed) w
+one_marked w changed true = λ i. record w { pending = union_assoc w.pending changed (only Message) i }
+one_marked w changed false = refl
+
+pub news_marked : (ws : List Watched) (changed : Subsystems) (notified : List ℕ) →
+    marked_some (marked ws changed) notified (only Message) ≡ with_news changed notified ws
+news_marked [] changed notified = refl
+news_marked (w ∷ ws) changed notified =
+    λ i. one_marked w changed (nat_among w.client notified) i ∷ news_marked ws changed notified i

@@ -3,12 +3,12 @@ use Rattle.std.proofs.Common.{◌≡◌, Bool, true, false, List, [], ◌∷◌,
 use Rattle.std.specs.Prelude.{unwrap_or}
 use Rattle.std.proofs.lemmas.Bool.{and_from, and_parts}
 use Rattle.idle_masks.specs.Subsystems.{none, difference, intersection, is_empty}
-use Rattle.idle_masks.specs.Watched.{marked, due, reported, after_reports}
+use Rattle.idle_masks.specs.Watched.{due, reported, after_reports}
 use Rattle.idle_masks.specs.declared.subsystem.Subsystems.{Subsystems}
 use Rattle.idle_masks.specs.declared.watch.Watched.{Watched}
 use Rattle.state_codec.specs.SavedState.{SavedState}
 use Rattle.daemon_core.specs.Agreement.{Agree}
-use Rattle.daemon_core.specs.Pending.{Moment, pending_of}
+use Rattle.daemon_core.specs.Pending.{Moment, pending_of, with_news}
 use Rattle.daemon_core.specs.Quiet.{is_quiet, NobodyIsDue}
 use Rattle.daemon_core.specs.Replay.{Entry, replay, moments, told_waiting}
 use Rattle.daemon_core.specs.Session.{Acted}
@@ -31,7 +31,7 @@ pub quiet : (kept : SavedState) (history : List Entry) → is_quiet (replay kept
 unfolding replay step
 quiet kept [] = refl
 quiet kept (entry ∷ earlier) =
-    let a : Acted = acted (replay kept earlier) entry.event entry.refused in quiet_after (marked a.after.clients a.changed)
+    let a : Acted = acted (replay kept earlier) entry.event entry.refused in quiet_after (with_news a.changed a.notified a.after.clients)
 
 -- so it is by the history
 told_one : (so_far : List Moment) (w : Watched) (waiting : Option Subsystems) → w.waiting ≡ waiting →

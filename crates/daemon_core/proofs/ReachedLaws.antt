@@ -10,15 +10,13 @@ use Rattle.command_text.specs.declared.request.Request.TheVariants.{Single, List
 use Rattle.idle_masks.specs.Watched.{watched}
 use Rattle.idle_masks.specs.declared.subsystem.Subsystems.{Subsystems}
 use Rattle.idle_masks.specs.declared.watch.Watched.{Watched}
-use Rattle.machine_core.specs.Changed.{changed}
 use Rattle.machine_core.specs.State.{MachineState}
 use Rattle.state_codec.specs.declared.op.Op.{Op}
 use Rattle.daemon_core.specs.Run.{Did, Goes, Refuses, Ends, attempted, Ran, wants_memory, preceded, follow, is_refused_at, ran}
-use Rattle.daemon_core.specs.Run.{Spent, spent_behind, unspent}
+use Rattle.daemon_core.specs.Run.{Spent, spent_behind, spent_on}
 use Rattle.daemon_core.specs.Session.{Acted, of_ran, runs}
-use Rattle.daemon_core.specs.Seen.{tags_seen}
 use Rattle.daemon_core.specs.State.{State}
-use Rattle.daemon_core.specs.Step.{connects_client, asked, waits_no_more, is_noidle, requested_by, waiting_of, acted, settles, step}
+use Rattle.daemon_core.specs.Step.{begun, connects_client, asked, waits_no_more, is_noidle, requested_by, waiting_of, acted, settles, step}
 use Rattle.daemon_core.specs.declared.event.Event.{Event}
 use Rattle.daemon_core.specs.declared.event.Event.TheVariants as events
 use Rattle.daemon_core.specs.declared.outcome.Ending.{Ending}
@@ -37,10 +35,10 @@ here_reaches : (refused : Option ℕ) (spent : Spent) (m : MachineState) (index 
 here_reaches refused spent m index line r free true h later = inl (place_is refused index h)
 here_reaches refused spent m index line r free false h later = later
 
-behind_reaches : (text : List ℕ) (changes : Subsystems) (ops : List Op) (refused : Option ℕ) (r free : Ran) → Reaches refused r free →
-    Reaches refused (preceded text changes ops r) (preceded text changes ops free)
-behind_reaches text changes ops refused r free (inl e) = inl e
-behind_reaches text changes ops refused r free (inr e) = inr (ap (preceded text changes ops) e)
+behind_reaches : (text : List ℕ) (changes : Subsystems) (ops : List Op) (notified : List ℕ) (refused : Option ℕ) (r free : Ran) →
+    Reaches refused r free → Reaches refused (preceded text changes ops notified r) (preceded text changes ops notified free)
+behind_reaches text changes ops notified refused r free (inl e) = inl e
+behind_reaches text changes ops notified refused r free (inr e) = inr (ap (preceded text changes ops notified) e)
 
 -- the rest of a request behind a command, where memory is refused at one command, reaches it beside the rest where none is refused it
 abbrev pub RestReaches : Option ℕ → (Spent → MachineState → Ran) → (Spent → MachineState → Ran) → Type 0
@@ -51,39 +49,39 @@ follow_reaches : (separator : List ℕ) (index : ℕ) (behind : List Op → Spen
     (d : Did) → RestReaches refused rest free →
     Reaches refused (follow separator index behind m rest d) (follow separator index behind m free d)
 follow_reaches separator index behind m refused rest free (Goes x) later =
-    behind_reaches _ (changed m x.after) x.ops refused (rest (behind x.ops) x.after)
-    (free (behind x.ops) x.after) (later (behind x.ops) x.after)
+    behind_reaches _ x.changed x.ops x.notified refused (rest (spent_on behind x) x.after)
+    (free (spent_on behind x) x.after) (later (spent_on behind x) x.after)
 follow_reaches separator index behind m refused rest free (Refuses refusal) later = inr refl
 follow_reaches separator index behind m refused rest free (Ends ending) later = inr refl
 
-ran_reaches : (place : Place) (separator : List ℕ) (refused : Option ℕ) (index : ℕ) (spent : Spent) (lines : List (List ℕ))
+ran_reaches : (c : ℕ) (place : Place) (separator : List ℕ) (refused : Option ℕ) (index : ℕ) (spent : Spent) (lines : List (List ℕ))
     (m : MachineState) →
-    Reaches refused (ran place separator refused index spent lines m) (ran place separator None index spent lines m)
+    Reaches refused (ran c place separator refused index spent lines m) (ran c place separator None index spent lines m)
 unfolding ran
-ran_reaches place separator refused index spent [] m = inr refl
-ran_reaches place separator refused index spent (line ∷ lines) m =
+ran_reaches c place separator refused index spent [] m = inr refl
+ran_reaches c place separator refused index spent (line ∷ lines) m =
     here_reaches refused spent m index line _ _ (is_refused_at refused index) refl
-    (follow_reaches separator index (spent_behind place line m spent) m refused (λ n t. ran place separator refused (suc index) n lines t)
-    (λ n t. ran place separator None (suc index) n lines t) (attempted place spent line m)
-    (λ n t. ran_reaches place separator refused (suc index) n lines t))
+    (follow_reaches separator index (spent_behind place line m spent) m refused (λ n t. ran c place separator refused (suc index) n lines t)
+    (λ n t. ran c place separator None (suc index) n lines t) (attempted c place spent line m)
+    (λ n t. ran_reaches c place separator refused (suc index) n lines t))
 
 -- where no memory is refused, a request names no place
 follow_names_none : (separator : List ℕ) (index : ℕ) (behind : List Op → Spent) (m : MachineState) (rest : Spent → MachineState → Ran)
     (d : Did) →
     ((n : Spent) (t : MachineState) → let r = rest n t in r.refused_at ≡ None) →
     let r = follow separator index behind m rest d in r.refused_at ≡ None
-follow_names_none separator index behind m rest (Goes x) later = later (behind x.ops) x.after
+follow_names_none separator index behind m rest (Goes x) later = later (spent_on behind x) x.after
 follow_names_none separator index behind m rest (Refuses refusal) later = refl
 follow_names_none separator index behind m rest (Ends ending) later = refl
 
-ran_names_none : (place : Place) (separator : List ℕ) (index : ℕ) (spent : Spent) (lines : List (List ℕ)) (m : MachineState) →
-    let r = ran place separator None index spent lines m in r.refused_at ≡ None
+ran_names_none : (c : ℕ) (place : Place) (separator : List ℕ) (index : ℕ) (spent : Spent) (lines : List (List ℕ)) (m : MachineState) →
+    let r = ran c place separator None index spent lines m in r.refused_at ≡ None
 unfolding ran
-ran_names_none place separator index spent [] m = refl
-ran_names_none place separator index spent (line ∷ lines) m =
-    follow_names_none separator index (spent_behind place line m spent) m (λ n t. ran place separator None (suc index) n lines t)
-    (attempted place spent line m)
-    (λ n t. ran_names_none place separator (suc index) n lines t)
+ran_names_none c place separator index spent [] m = refl
+ran_names_none c place separator index spent (line ∷ lines) m =
+    follow_names_none separator index (spent_behind place line m spent) m (λ n t. ran c place separator None (suc index) n lines t)
+    (attempted c place spent line m)
+    (λ n t. ran_names_none c place separator (suc index) n lines t)
 
 -- so it is with an event
 pub of_ran_place : (c : ℕ) (s : State) (r : Ran) (ending : Ending) → let a = of_ran c s r ending in a.refused_at ≡ r.refused_at
@@ -102,12 +100,9 @@ runs_reaches c s refused r free (inr e) = inr (ap (runs c s) e)
 
 asked_reaches : (c : ℕ) (refused : Option ℕ) (s : State) (request : Request) →
     ActReaches refused (asked c refused s request) (asked c None s request)
-asked_reaches c refused s (Single line) = runs_reaches c s refused _ _ (ran_reaches Alone [] refused 0 (unspent s.machine
-    (tags_seen s.masks c)) (line ∷ []) s.machine)
-asked_reaches c refused s (CommandList lines) = runs_reaches c s refused _ _ (ran_reaches InList [] refused 0 (unspent s.machine
-    (tags_seen s.masks c)) lines s.machine)
-asked_reaches c refused s (OkList lines) = runs_reaches c s refused _ _ (ran_reaches InList list_ok refused 0 (unspent s.machine
-    (tags_seen s.masks c)) lines s.machine)
+asked_reaches c refused s (Single line) = runs_reaches c s refused _ _ (ran_reaches c Alone [] refused 0 (begun c s) (line ∷ []) s.machine)
+asked_reaches c refused s (CommandList lines) = runs_reaches c s refused _ _ (ran_reaches c InList [] refused 0 (begun c s) lines s.machine)
+asked_reaches c refused s (OkList lines) = runs_reaches c s refused _ _ (ran_reaches c InList list_ok refused 0 (begun c s) lines s.machine)
 asked_reaches c refused s Noidle = inr refl
 
 requested_reaches : (c : ℕ) (refused : Option ℕ) (s : State) (request : Request) (found : Option (Option Subsystems)) →
@@ -141,12 +136,10 @@ ran_place : (c : ℕ) (s : State) (r : Ran) → r.refused_at ≡ None → let a 
 ran_place c s r none = of_ran_place c s r r.ending ∙ none
 
 asked_names_none : (c : ℕ) (s : State) (request : Request) → let a = asked c None s request in a.refused_at ≡ None
-asked_names_none c s (Single line) = ran_place c s _ (ran_names_none Alone [] 0 (unspent s.machine (tags_seen s.masks c))
+asked_names_none c s (Single line) = ran_place c s _ (ran_names_none c Alone [] 0 (begun c s)
     (line ∷ []) s.machine)
-asked_names_none c s (CommandList lines) = ran_place c s _ (ran_names_none InList [] 0 (unspent s.machine
-    (tags_seen s.masks c)) lines s.machine)
-asked_names_none c s (OkList lines) = ran_place c s _ (ran_names_none InList list_ok 0 (unspent s.machine
-    (tags_seen s.masks c)) lines s.machine)
+asked_names_none c s (CommandList lines) = ran_place c s _ (ran_names_none c InList [] 0 (begun c s) lines s.machine)
+asked_names_none c s (OkList lines) = ran_place c s _ (ran_names_none c InList list_ok 0 (begun c s) lines s.machine)
 asked_names_none c s Noidle = refl
 
 waiting_names_none : (noidle : Bool) (c : ℕ) (s : State) → let a = waits_no_more noidle c s in a.refused_at ≡ None

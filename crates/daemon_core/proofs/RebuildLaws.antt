@@ -1,31 +1,24 @@
 -- The ops of an event rebuild the saved half, where those of a command do, and fit into a record.
 use Rattle.std.proofs.Common.{◌≡◌, ℕ, suc, ◌+◌, ◌≤◌, Bool, true, false, List, [], ◌∷◌, ◌++◌, length, Option, Some, None, cond}
 use Rattle.std.proofs.Common.{refl, subst, ◌∙◌, ap, arith, length-append}
-use Rattle.std.specs.Prelude.{Result, Ok, Err, nat_le}
+use Rattle.std.specs.Prelude.{Ok}
 use Rattle.std.specs.Option.{option_and_then}
-use Rattle.std.proofs.lemmas.Bool.{leb-true}
 use Rattle.command_text.specs.declared.tag_mask.TagMask.{TagMask}
 use Rattle.command_text.specs.Answer.{list_ok}
-use Rattle.command_text.specs.Reading.{line_reading}
 use Rattle.command_text.specs.declared.command.Command.{Command}
-use Rattle.command_text.specs.declared.command.NamedCommand.{NamedCommand}
-use Rattle.command_text.specs.declared.name.CommandName.{CommandName}
 use Rattle.command_text.specs.declared.place.Place.{Place}
 use Rattle.command_text.specs.declared.place.Place.TheVariants.{Alone, InList}
-use Rattle.command_text.specs.declared.refusal.CommandRefusal.TheVariants.{RequestTooLarge}
-use Rattle.command_text.specs.declared.refusal.Refusal.{Refusal}
 use Rattle.command_text.specs.declared.request.Request.{Request}
 use Rattle.command_text.specs.declared.request.Request.TheVariants.{Single, List as CommandList, OkList, Noidle}
 use Rattle.idle_masks.specs.Watched.{watched}
 use Rattle.idle_masks.specs.declared.subsystem.Subsystems.{Subsystems}
 use Rattle.idle_masks.specs.declared.watch.Watched.{Watched}
 use Rattle.machine_core.specs.Command.{meaning}
-use Rattle.machine_core.specs.Looks.{looks_of, max_looks}
 use Rattle.machine_core.specs.Happening.{Happening}
-use Rattle.machine_core.specs.Meaning.{Meaning, Meant}
+use Rattle.machine_core.specs.Meaning.{Meaning}
 use Rattle.machine_core.specs.Reports.{when_fed, when_ended, when_broken}
 use Rattle.machine_core.specs.Scanning.{when_found, when_scanned}
-use Rattle.machine_core.specs.Size.{max_request_bytes, within}
+use Rattle.machine_core.specs.Size.{max_request_bytes}
 use Rattle.machine_core.specs.State.{MachineState}
 use Rattle.machine_core.proofs.Sizes.{body_len, checksum_fits, profile_stays}
 use Rattle.profile.specs.declared.profile.Profile.{Profile}
@@ -35,16 +28,16 @@ use Rattle.state_codec.specs.Sealed.{checksum_len}
 use Rattle.state_codec.specs.Spelling.{ops_bytes}
 use Rattle.state_codec.specs.SpellingOps.{op_bytes}
 use Rattle.state_codec.specs.declared.op.Op.{Op}
-use Rattle.daemon_core.specs.Run.{Did, Goes, Refuses, Ends, ending_of, did_of, unless_it_ends, performed, read_and_performed, attempted}
+use Rattle.daemon_core.specs.Run.{Did, Goes, Refuses, Ends, attempted}
 use Rattle.daemon_core.specs.Run.{Ran, wants_memory, follow, is_refused_at, ran}
-use Rattle.daemon_core.specs.Run.{Spent, spent_behind, unspent}
+use Rattle.daemon_core.specs.Run.{Spent, spent_behind, spent_on}
 use Rattle.daemon_core.specs.Reported.{IsRebuilt, IsReported}
 use Rattle.daemon_core.specs.Session.{happened, of_ran, runs}
-use Rattle.daemon_core.specs.Seen.{tags_seen}
 use Rattle.daemon_core.specs.State.{State}
-use Rattle.daemon_core.specs.Step.{connects_client, asked, waits_no_more, is_noidle, requested_by, waiting_of, acted, step}
+use Rattle.daemon_core.specs.Step.{begun, connects_client, asked, waits_no_more, is_noidle, requested_by, waiting_of, acted, step}
 use Rattle.daemon_core.specs.declared.event.Event.{Event}
 use Rattle.daemon_core.specs.declared.event.Event.TheVariants as events
+use Rattle.daemon_core.proofs.DoneLaws.{line_is}
 use Rattle.daemon_core.specs.declared.outcome.Ending.{Ending}
 use Rattle.daemon_core.specs.declared.outcome.Ending.TheVariants.{Answered, Closed, Killed, Waits}
 
@@ -63,50 +56,16 @@ Rebuilds size m (Goes x) = Rebuilt size m x.after x.ops
 Rebuilds size m (Refuses refusal) = Unit {0}
 Rebuilds size m (Ends ending) = Unit {0}
 
-within_rebuilds : (size : ℕ) (m : MachineState) (name : CommandName) (x : Meaning) (fits : Bool) →
-    nat_le (size + length (ops_bytes m.saved.profile x.ops)) max_request_bytes ≡ fits → all_applied x.ops m.saved ≡ Some x.after.saved →
-    Rebuilds size m (did_of name (cond fits (Ok x) (Err RequestTooLarge)))
-within_rebuilds size m name x true h same = record { state = same; fits = leb-true _ _ h }
-within_rebuilds size m name x false h same = tt
+-- a sum alone
+none_more : (profile : Profile) (size : ℕ) → size ≤ max_request_bytes → size + length (ops_bytes profile []) ≤ max_request_bytes
+none_more profile size within = omega (arith, within)
 
-did_rebuilds : (law : CommandsRebuild) (mask : TagMask) (size : ℕ) (m : MachineState) (name : CommandName) (command : Command)
-    (meant : Meant) →
-    meaning mask command m ≡ meant → Rebuilds size m (did_of name (within m.saved.profile size meant))
-did_rebuilds law mask size m name command (Err refusal) is = tt
-did_rebuilds law mask size m name command (Ok x) is =
-    within_rebuilds size m name x (nat_le (size + length (ops_bytes m.saved.profile x.ops)) max_request_bytes) refl
-    (law mask command m x is)
-
-unless_rebuilds : (size : ℕ) (m : MachineState) (ending : Option Ending) (did : Did) → Rebuilds size m did →
-    Rebuilds size m (unless_it_ends ending did)
-unless_rebuilds size m None did h = h
-unless_rebuilds size m (Some ending) did h = tt
-
--- one that would look at too much is refused before it does anything
-weighed_rebuilds : (size : ℕ) (m : MachineState) (name : CommandName) (meant : Meant) (fits : Bool) →
-    Rebuilds size m (did_of name (within m.saved.profile size meant)) →
-    Rebuilds size m (did_of name (within m.saved.profile size (cond fits meant (Err RequestTooLarge))))
-weighed_rebuilds size m name meant true same = same
-weighed_rebuilds size m name meant false same = tt
-
-performed_rebuilds : (law : CommandsRebuild) (spent : Spent) (named : NamedCommand) (m : MachineState) →
-    Rebuilds spent.size m (performed spent named m)
-unfolding performed
-performed_rebuilds law spent named m =
-    unless_rebuilds spent.size m (ending_of named.command) _
-    (weighed_rebuilds spent.size m named.name (meaning spent.tags named.command m) (nat_le (spent.looks + looks_of named.command m)
-    max_looks)
-    (did_rebuilds law spent.tags spent.size m named.name named.command (meaning spent.tags named.command m) refl))
-
-read_rebuilds : (law : CommandsRebuild) (spent : Spent) (m : MachineState) (read : Result NamedCommand Refusal) →
-    Rebuilds spent.size m (read_and_performed spent m read)
-read_rebuilds law spent m (Ok named) = performed_rebuilds law spent named m
-read_rebuilds law spent m (Err refusal) = tt
-
-attempted_rebuilds : (law : CommandsRebuild) (place : Place) (spent : Spent) (line : List ℕ) (m : MachineState) →
-    Rebuilds spent.size m (attempted place spent line m)
-unfolding attempted
-attempted_rebuilds law place spent line m = read_rebuilds law spent m (line_reading m.saved.profile place line)
+attempted_rebuilds : (law : CommandsRebuild) (c : ℕ) (place : Place) (spent : Spent) (line : List ℕ) (m : MachineState) →
+    spent.size ≤ max_request_bytes → Rebuilds spent.size m (attempted c place spent line m)
+attempted_rebuilds law c place spent line m within =
+    line_is (Rebuilds spent.size m) c place spent line m (λ ending. tt) (λ refusal. tt)
+    (λ command talk is. record { state = refl; fits = none_more m.saved.profile spent.size within })
+    (λ command x means fits. record { state = law spent.tags command m x means; fits = fits })
 
 ops_bytes-append : (profile : Profile) (a b : List Op)
     → length (ops_bytes profile (a ++ b)) ≡ length (ops_bytes profile a) + length (ops_bytes profile b)
@@ -125,8 +84,8 @@ follow_rebuilds : (separator : List ℕ) (index : ℕ) (place : Place) (line : L
     ((n : Spent) (t : MachineState) → n.size ≤ max_request_bytes → let r = rest n t in Rebuilt n.size t r.after r.ops) →
     let r = follow separator index (spent_behind place line m spent) m rest d in Rebuilt spent.size m r.after r.ops
 follow_rebuilds separator index place line spent m rest (Goes x) within same later =
-    let r : Ran = rest (spent_behind place line m spent x.ops) x.after in
-    let l = later (spent_behind place line m spent x.ops) x.after same.fits in
+    let r : Ran = rest (spent_on (spent_behind place line m spent) x) x.after in
+    let l = later (spent_on (spent_behind place line m spent) x) x.after same.fits in
     record {
       state = all_applied-append x.ops r.ops m.saved ∙ ap (option_and_then (all_applied r.ops)) same.state ∙ l.state;
       fits = omega (
@@ -147,16 +106,16 @@ here_rebuilds : (size : ℕ) (spent : Spent) (m : MachineState) (index : ℕ) (l
 here_rebuilds size spent m index line r true within same = record { state = refl; fits = omega (arith, within) }
 here_rebuilds size spent m index line r false within same = same
 
-ran_rebuilds : (law : CommandsRebuild) (place : Place) (separator : List ℕ) (refused : Option ℕ) (index : ℕ) (spent : Spent)
+ran_rebuilds : (law : CommandsRebuild) (c : ℕ) (place : Place) (separator : List ℕ) (refused : Option ℕ) (index : ℕ) (spent : Spent)
     (lines : List (List ℕ)) (m : MachineState) → spent.size ≤ max_request_bytes →
-    let r = ran place separator refused index spent lines m in Rebuilt spent.size m r.after r.ops
+    let r = ran c place separator refused index spent lines m in Rebuilt spent.size m r.after r.ops
 unfolding ran
-ran_rebuilds law place separator refused index spent [] m within = record { state = refl; fits = omega (arith, within) }
-ran_rebuilds law place separator refused index spent (line ∷ lines) m within =
+ran_rebuilds law c place separator refused index spent [] m within = record { state = refl; fits = omega (arith, within) }
+ran_rebuilds law c place separator refused index spent (line ∷ lines) m within =
     here_rebuilds spent.size spent m index line _ (is_refused_at refused index) within
-    (follow_rebuilds separator index place line spent m (λ n t. ran place separator refused (suc index) n lines t)
-    (attempted place spent line m) within (attempted_rebuilds law place spent line m)
-    (λ n t fits. ran_rebuilds law place separator refused (suc index) n lines t fits))
+    (follow_rebuilds separator index place line spent m (λ n t. ran c place separator refused (suc index) n lines t)
+    (attempted c place spent line m) within (attempted_rebuilds law c place spent line m within)
+    (λ n t fits. ran_rebuilds law c place separator refused (suc index) n lines t fits))
 
 -- so is what any event does, with the sum behind its ops
 abbrev pub WholeRebuilt : MachineState → MachineState → List Op → Type 0
@@ -183,13 +142,13 @@ runs_rebuilds c s r h = of_ran_rebuilds c s r r.ending h
 asked_rebuilds : (law : CommandsRebuild) (c : ℕ) (refused : Option ℕ) (s : State) (request : Request) →
     let a = asked c refused s request in WholeRebuilt s.machine a.after.machine a.ops
 asked_rebuilds law c refused s (Single line) =
-    runs_rebuilds c s _ (ran_rebuilds law Alone [] refused 0 (unspent s.machine (tags_seen s.masks c)) (line ∷ []) s.machine
+    runs_rebuilds c s _ (ran_rebuilds law c Alone [] refused 0 (begun c s) (line ∷ []) s.machine
     (checksum_fits s.machine.saved.profile))
 asked_rebuilds law c refused s (CommandList lines) =
-    runs_rebuilds c s _ (ran_rebuilds law InList [] refused 0 (unspent s.machine (tags_seen s.masks c)) lines s.machine
+    runs_rebuilds c s _ (ran_rebuilds law c InList [] refused 0 (begun c s) lines s.machine
     (checksum_fits s.machine.saved.profile))
 asked_rebuilds law c refused s (OkList lines) =
-    runs_rebuilds c s _ (ran_rebuilds law InList list_ok refused 0 (unspent s.machine (tags_seen s.masks c)) lines s.machine
+    runs_rebuilds c s _ (ran_rebuilds law c InList list_ok refused 0 (begun c s) lines s.machine
     (checksum_fits s.machine.saved.profile))
 asked_rebuilds law c refused s Noidle = same s
 

@@ -1,13 +1,15 @@
 -- The commands of a request, one after the other.
 use Rattle.std.proofs.Common.{◌≡◌, ℕ, suc, ◌+◌, ◌≤◌, ◌<◌, Bool, true, false, ◌||◌, List, [], ◌∷◌, ◌++◌, length, Option, Some, None, cond}
 use Rattle.std.proofs.Common.{refl, sym, ◌∙◌, ap, subst, arith, append_assoc, eq-eqb}
-use Rattle.std.specs.Prelude.{Result, Ok, Err, IfSome, nat_le}
+use Rattle.std.specs.Prelude.{Result, Ok, Err, IfOk, IfSome, nat_le}
 use Rattle.std.proofs.lemmas.Bool.{le-leb, ne_eqb}
 use Rattle.std.proofs.lemmas.List.{append-nil}
 use Rattle.command_text.specs.Answer.{ok, ack}
 use Rattle.command_text.specs.Reading.{line_words, command_of, line_reading, command_in, name_of_line, want_of_memory, Gives, GivesWords}
 use Rattle.command_text.specs.declared.command.Command.{Command}
 use Rattle.command_text.specs.declared.command.Command.TheVariants as commands
+use Rattle.client_messages.specs.declared.listener.Listener.{Listener}
+use Rattle.command_text.specs.declared.command.messages.MessagesCommand.{MessagesCommand}
 use Rattle.command_text.specs.declared.command.NamedCommand.{NamedCommand}
 use Rattle.command_text.specs.declared.command.session.SessionCommand.{SessionCommand}
 use Rattle.command_text.specs.declared.command.session.SessionCommand.TheVariants as session
@@ -29,7 +31,9 @@ use Rattle.machine_core.specs.Looks.{looked, looks_of, max_looks, settings_looks
 use Rattle.machine_core.specs.Meaning.{Meaning, Meant}
 use Rattle.machine_core.specs.Size.{max_request_bytes, within}
 use Rattle.machine_core.specs.State.{MachineState}
-use Rattle.machine_core.specs.Work.{AddsNothing, AddsOps, AddsText, HasRoom, Went, ack_room}
+use Rattle.machine_core.specs.Work.{AddsNothing, AddsText, Failed, HasRoom, IsRefusalOf, Performs, Went, ack_room}
+use Rattle.machine_core.specs.declared.work.Failure.{Failure}
+use Rattle.machine_core.specs.declared.work.Failure.TheVariants as failures
 use Rattle.machine_core.specs.declared.work.Work.{Work}
 use Rattle.profile.specs.declared.profile.Profile.{Profile}
 use Rattle.state_codec.specs.Sealed.{checksum_len}
@@ -37,14 +41,19 @@ use Rattle.state_codec.specs.Spelling.{ops_bytes}
 use Rattle.state_codec.specs.declared.op.Op.{Op}
 use Rattle.daemon_core.specs.Handled.{Does}
 use Rattle.daemon_core.specs.Parts.{state_of}
-use Rattle.daemon_core.specs.Request.{stop_of_reading, ran_of, WentOn, IsStop, Stopped, RunsLine, AnswersStop}
+use Rattle.daemon_core.specs.Request.{stop_of_reading, ran_of, IsPerformed, IsNotPerformed, IsRefusalBy, RunsCommand, WentOn, IsStop}
+use Rattle.daemon_core.specs.Request.{Stopped, RunsLine, AnswersStop}
 use Rattle.daemon_core.specs.Request.{CountsLooks, RunsLines, SeesTags, looks_at_end, tags_at_end}
 use Rattle.daemon_core.specs.Session.{of_ran, runs}
-use Rattle.daemon_core.specs.Run.{Did, Goes, Refuses, Ends, ending_of, did_of, unless_it_ends, performed, read_and_performed, attempted}
+use Rattle.daemon_core.specs.Run.{Did, Done, Goes, Refuses, Ends, ending_of, did_of, unless_it_ends, performed, read_and_performed}
+use Rattle.daemon_core.specs.Run.{attempted, done_by, done_of, either_does, machine_does, talk_does, talk_done}
 use Rattle.daemon_core.specs.Run.{Ran, ends, wants_memory, preceded, follow, is_refused_at, ran, session_ending, settings_ending}
-use Rattle.daemon_core.specs.Run.{Spent, looks_of_line, looks_read, spent_behind, spent_of, tags_behind, tags_of_line, tags_read}
-use Rattle.daemon_core.specs.Run.{unspent, within_both}
+use Rattle.daemon_core.specs.Run.{Spent, looks_of_line, looks_read, spent_behind, spent_of, spent_on, tags_behind, tags_of_line, tags_read}
+use Rattle.daemon_core.specs.Run.{within_both}
 use Rattle.daemon_core.specs.Seen.{tags_seen}
+use Rattle.daemon_core.specs.Step.{begun}
+use Rattle.daemon_core.specs.Talk.{Talk, talk_of, talked}
+use Rattle.daemon_core.specs.Talking.{IsSame, IsTalkRefusal, RunsTalk}
 use Rattle.daemon_core.specs.declared.masks.ClientMask.{ClientMask}
 use Rattle.daemon_core.specs.declared.outcome.Ending.{Ending}
 use Rattle.daemon_core.specs.declared.handled.Handled.{Handled}
@@ -52,20 +61,13 @@ use Rattle.daemon_core.specs.declared.outcome.Ending.TheVariants.{Answered, Clos
 use Rattle.daemon_core.specs.declared.parts.CoreParts.{CoreParts}
 use Rattle.daemon_core.specs.declared.request.RequestEnd.{RequestEnd}
 use Rattle.daemon_core.specs.declared.request.Stop.{Stop}
+use Rattle.daemon_core.specs.declared.talk.Talks.{Talks}
 use Rattle.idle_masks.specs.declared.watch.Watched.{Watched}
 use Rattle.daemon_core.specs.declared.request.Stop.TheVariants as stops
-use Rattle.daemon_core.proofs.PendingLaws.{contains-set_of, set_ext}
+use Rattle.daemon_core.proofs.PendingLaws.{contains-set_of, set_ext, union_assoc}
 use Rattle.daemon_core.proofs.ReachedLaws.{of_ran_place}
 
 -- Room that was taken before changes nothing.
-adds_from : (more : List Op) (bytes : ℕ) (before mid after : Work) → AddsNothing before mid → AddsOps more bytes mid after
-    → AddsOps more bytes before after
-adds_from more bytes before mid after nothing adds = record {
-  ops = adds.ops ∙ ap (λ x. x ++ more) nothing.ops;
-  size = adds.size ∙ ap (λ n. n + bytes) nothing.size;
-  fits = adds.fits;
-}
-
 nothing_from : (before mid after : Work) → AddsNothing before mid → AddsNothing mid after → AddsNothing before after
 nothing_from before mid after first second = record {
   text = second.text ∙ first.text;
@@ -74,19 +76,23 @@ nothing_from before mid after first second = record {
   size = second.size ∙ first.size;
 }
 
-pub runs_from : (between : List ℕ) (did : Did) (s t : MachineState) (before mid after : Work) (r : Result Subsystems Stop) →
-    AddsNothing before mid → RunsLine between did s t mid after r → RunsLine between did s t before after r
-runs_from between did s t before mid after (Ok set) nothing h = record {
-  meaning = h.meaning;
-  means = h.means;
+pub runs_from : (between : List ℕ) (did : Did) (s t : MachineState) (talks talked : Talks) (before mid after : Work)
+    (r : Result Subsystems Stop) → AddsNothing before mid → RunsLine between did s t talks talked mid after r →
+    RunsLine between did s t talks talked before after r
+runs_from between did s t talks talked before mid after (Ok set) nothing h = let x : Done = h.what in record {
+  what = x;
+  is = h.is;
   stands = h.stands;
-  text = h.text ∙ (let m = h.meaning in ap (λ x. x ++ (m.text ++ between)) nothing.text);
-  ops = let m = h.meaning in adds_from m.ops (length (ops_bytes s.saved.profile m.ops)) before mid after nothing h.ops;
+  messages = h.messages;
+  notified = h.notified;
+  text = h.text ∙ ap (λ y. y ++ (x.text ++ between)) nothing.text;
+  ops = h.ops ∙ ap (λ y. y ++ x.ops) nothing.ops;
+  size = h.size ∙ ap (λ n. n + length (ops_bytes s.saved.profile x.ops)) nothing.size;
   changed = h.changed;
   room = h.room;
 }
-runs_from between did s t before mid after (Err stop) nothing h =
-    record { stands = h.stands; nothing = nothing_from before mid after nothing h.nothing; why = h.why }
+runs_from between did s t talks talked before mid after (Err stop) nothing h =
+    record { stands = h.stands; same = h.same; nothing = nothing_from before mid after nothing h.nothing; why = h.why }
 
 -- what is read under the profile of a machine
 pub read_under : {p q : Profile} (place : Place) (words : List (List ℕ)) (r : Result NamedCommand ReadError) → p ≡ q
@@ -94,68 +100,137 @@ pub read_under : {p q : Profile} (place : Place) (words : List (List ℕ)) (r : 
 read_under place words r same h = subst (λ (x : Profile). Gives r (command_of x place words)) same h
 
 -- a line that was read
-pub read_performed : (place : Place) (spent : Spent) (line : List ℕ) (words : List (List ℕ)) (m : MachineState) (named : NamedCommand) →
-    line_words line ≡ Ok words → command_of m.saved.profile place words ≡ Ok named → performed spent named m ≡ attempted place spent line m
+pub read_performed : (c : ℕ) (place : Place) (spent : Spent) (line : List ℕ) (words : List (List ℕ)) (m : MachineState) (named : NamedCommand) →
+    line_words line ≡ Ok words → command_of m.saved.profile place words ≡ Ok named → performed c spent named m ≡ attempted c place spent line m
 unfolding attempted line_reading
-read_performed place spent line words m named parted read =
-    sym (ap (λ w. read_and_performed spent m (command_in m.saved.profile place w)) parted ∙ ap (read_and_performed spent m) read)
+read_performed c place spent line words m named parted read =
+    sym (ap (λ w. read_and_performed c spent m (command_in m.saved.profile place w)) parted ∙ ap (read_and_performed c spent m) read)
 
 -- a line whose words were refused, or that no command is read from
-pub words_refused : (place : Place) (spent : Spent) (line : List ℕ) (m : MachineState) (refusal : Refusal) → line_words line ≡ Err refusal →
-    attempted place spent line m ≡ Refuses refusal
+pub words_refused : (c : ℕ) (place : Place) (spent : Spent) (line : List ℕ) (m : MachineState) (refusal : Refusal) → line_words line ≡ Err refusal →
+    attempted c place spent line m ≡ Refuses refusal
 unfolding attempted line_reading
-words_refused place spent line m refusal parted = ap (λ w. read_and_performed spent m (command_in m.saved.profile place w)) parted
+words_refused c place spent line m refusal parted = ap (λ w. read_and_performed c spent m (command_in m.saved.profile place w)) parted
 
-pub command_refused : (place : Place) (spent : Spent) (line : List ℕ) (words : List (List ℕ)) (m : MachineState) (refusal : Refusal) →
-    line_words line ≡ Ok words → command_of m.saved.profile place words ≡ Err refusal → attempted place spent line m ≡ Refuses refusal
+pub command_refused : (c : ℕ) (place : Place) (spent : Spent) (line : List ℕ) (words : List (List ℕ)) (m : MachineState) (refusal : Refusal) →
+    line_words line ≡ Ok words → command_of m.saved.profile place words ≡ Err refusal → attempted c place spent line m ≡ Refuses refusal
 unfolding attempted line_reading
-command_refused place spent line words m refusal parted read =
-    ap (λ w. read_and_performed spent m (command_in m.saved.profile place w)) parted ∙ ap (read_and_performed spent m) read
+command_refused c place spent line words m refusal parted read =
+    ap (λ w. read_and_performed c spent m (command_in m.saved.profile place w)) parted ∙ ap (read_and_performed c spent m) read
 
 -- a command that ends its request, and one that means something
-pub performed_ends : (spent : Spent) (named : NamedCommand) (m : MachineState) (ending : Ending) → ending_of named.command ≡ Some ending →
-    performed spent named m ≡ Ends ending
+pub performed_ends : (c : ℕ) (spent : Spent) (named : NamedCommand) (m : MachineState) (ending : Ending) →
+    ending_of named.command ≡ Some ending → performed c spent named m ≡ Ends ending
 unfolding performed
-performed_ends spent named m ending is =
-    ap (λ e. unless_it_ends e (did_of named.name (within_both spent named.command m))) is
+performed_ends c spent named m ending is = ap (λ e. unless_it_ends e (did_of named.name (done_by c spent named.command m))) is
 
-performed_did : (spent : Spent) (named : NamedCommand) (m : MachineState) (meant : Meant) → ending_of named.command ≡ None →
-    within_both spent named.command m ≡ meant → performed spent named m ≡ did_of named.name meant
+performed_did : (c : ℕ) (spent : Spent) (named : NamedCommand) (m : MachineState) (does : Result Done CommandRefusal) →
+    ending_of named.command ≡ None → done_by c spent named.command m ≡ does → performed c spent named m ≡ did_of named.name does
 unfolding performed
-performed_did spent named m meant is same =
-    ap (λ e. unless_it_ends e (did_of named.name (within_both spent named.command m))) is ∙ ap (did_of named.name) same
+performed_did c spent named m does is same =
+    ap (λ e. unless_it_ends e (did_of named.name (done_by c spent named.command m))) is ∙ ap (did_of named.name) same
 
-pub performed_refuses : (spent : Spent) (named : NamedCommand) (m : MachineState) (refusal : CommandRefusal) →
-    ending_of named.command ≡ None → within_both spent named.command m ≡ Err refusal →
-    performed spent named m ≡ Refuses (OfCommand named.name refusal)
-performed_refuses spent named m refusal is same = performed_did spent named m (Err refusal) is same
+pub performed_refuses : (c : ℕ) (spent : Spent) (named : NamedCommand) (m : MachineState) (refusal : CommandRefusal) →
+    ending_of named.command ≡ None → done_by c spent named.command m ≡ Err refusal →
+    performed c spent named m ≡ Refuses (OfCommand named.name refusal)
+performed_refuses c spent named m refusal is same = performed_did c spent named m (Err refusal) is same
 
 within_limit : (profile : Profile) (size : ℕ) (x : Meaning) → size + length (ops_bytes profile x.ops) ≤ max_request_bytes
     → within profile size (Ok x) ≡ Ok x
 within_limit profile size x fits =
     ap (λ b. cond b (Ok x) (Err RequestTooLarge)) (le-leb (size + length (ops_bytes profile x.ops)) max_request_bytes fits)
 
-pub performed_goes : (named : NamedCommand) (s t : MachineState) (before after : Work) (looks : ℕ) (tags : TagMask)
-    (went : Went s.saved.profile (weighed looks (looks_of named.command s) (meaning tags named.command s)) t before after) →
-    ending_of named.command ≡ None → performed (spent_of before.size looks tags) named s ≡ Goes went.meaning
-performed_goes named s t before after looks tags went is =
+-- a command that is none of messages does what it means
+machine_is : (c : ℕ) (spent : Spent) (command : Command) (m : MachineState) (meant : Meant) → talk_of c spent.messages command ≡ None →
+    within_both spent command m ≡ meant → done_by c spent command m ≡ machine_does m spent.messages meant
+unfolding done_by
+machine_is c spent command m meant other same =
+    ap (λ o. either_does m spent.messages o (within_both spent command m)) other ∙ ap (machine_does m spent.messages) same
+
+pub machine_performs : (c : ℕ) (command : Command) (s t : MachineState) (talks : Talks) (before after : Work) (looks : ℕ) (tags : TagMask)
+    (set : Subsystems) → talk_of c talks.messages command ≡ None →
+    Went s.saved.profile (weighed looks (looks_of command s) (meaning tags command s)) t before after → set ≡ changed s t →
+    IsPerformed (done_by c (spent_of before.size looks tags talks.messages) command s) s t talks talks before after set
+machine_performs c command s t talks before after looks tags set other went same =
     let x : Meaning = went.meaning in
-    performed_did (spent_of before.size looks tags) named s (Ok x) is
-    (ap (within s.saved.profile before.size) went.means
-    ∙ within_limit s.saved.profile before.size x (let a = went.ops in omega (arith, a.size, a.fits)))
+    let a = went.ops in
+    record {
+      what = done_of s talks.messages x;
+      is = machine_is c (spent_of before.size looks tags talks.messages) command s (Ok x) other
+          (ap (within s.saved.profile before.size) went.means ∙ within_limit s.saved.profile before.size x (omega (arith, a.size, a.fits)));
+      stands = went.stands;
+      messages = refl;
+      notified = sym (append-nil talks.notified.items);
+      text = went.text;
+      ops = a.ops;
+      size = a.size;
+      changed = same ∙ ap (changed s) went.stands;
+      room = went.room;
+    }
 
--- Sets of subsystems join in any grouping.
-or_assoc : (a b c : Bool) → ((a || b) || c) ≡ (a || (b || c))
-or_assoc true b c = refl
-or_assoc false b c = refl
+machine_refused : (c : ℕ) (command : Command) (s : MachineState) (talks : Talks) (size looks : ℕ) (tags : TagMask) (failure : Failure) →
+    talk_of c talks.messages command ≡ None →
+    IsRefusalOf s.saved.profile (weighed looks (looks_of command s) (meaning tags command s)) size failure →
+    IsRefusalBy (done_by c (spent_of size looks tags talks.messages) command s) failure
+machine_refused c command s talks size looks tags (failures.Refused refusal) other h =
+    machine_is c (spent_of size looks tags talks.messages) command s (Err refusal) other h
+machine_refused c command s talks size looks tags failures.NoMemory other h = tt
 
-union_assoc : (a b c : Subsystems) → union (union a b) c ≡ union a (union b c)
-union_assoc a b c = set_ext _ _ (λ x.
-    contains-set_of (λ y. contains (union a b) y || contains c y) x
-    ∙ ap (λ v. v || contains c x) (contains-set_of (λ y. contains a y || contains b y) x)
-    ∙ or_assoc (contains a x) (contains b x) (contains c x)
-    ∙ ap (λ v. contains a x || v) (sym (contains-set_of (λ y. contains b y || contains c y) x))
-    ∙ sym (contains-set_of (λ y. contains a y || contains (union b c) y) x))
+pub machine_fails : (c : ℕ) (command : Command) (s t : MachineState) (talks : Talks) (before after : Work) (looks : ℕ) (tags : TagMask)
+    (failure : Failure) → talk_of c talks.messages command ≡ None →
+    Failed (weighed looks (looks_of command s) (meaning tags command s)) s t before after failure →
+    IsNotPerformed (done_by c (spent_of before.size looks tags talks.messages) command s) s t talks talks before after failure
+machine_fails c command s t talks before after looks tags failure other failed = record {
+  stands = failed.state;
+  same = record { messages = refl; notified = refl };
+  nothing = failed.nothing;
+  refusal = machine_refused c command s talks before.size looks tags failure other failed.refusal;
+}
+
+pub machine_runs : (c : ℕ) (command : Command) (s t : MachineState) (talks : Talks) (before after : Work) (looks : ℕ) (tags : TagMask)
+    (r : Result Subsystems Failure) → talk_of c talks.messages command ≡ None →
+    Performs (weighed looks (looks_of command s) (meaning tags command s)) s t before after r →
+    IfOk r (λ set. set ≡ changed s t) →
+    RunsCommand (done_by c (spent_of before.size looks tags talks.messages) command s) s t talks talks before after r
+machine_runs c command s t talks before after looks tags (Ok set) other went same =
+    machine_performs c command s t talks before after looks tags set other went same
+machine_runs c command s t talks before after looks tags (Err failure) other failed same =
+    machine_fails c command s t talks before after looks tags failure other failed
+
+-- so does one of messages
+talk_refused : (c : ℕ) (command : MessagesCommand) (s : MachineState) (talks : Talks) (size looks : ℕ) (tags : TagMask) (failure : Failure) →
+    IsTalkRefusal (talked c talks.messages command) failure →
+    IsRefusalBy (done_by c (spent_of size looks tags talks.messages) (commands.Messages command) s) failure
+unfolding done_by talk_of
+talk_refused c command s talks size looks tags (failures.Refused refusal) h = ap (talk_does s) h
+talk_refused c command s talks size looks tags failures.NoMemory h = tt
+
+pub talk_runs : (c : ℕ) (command : MessagesCommand) (s : MachineState) (talks after_it : Talks) (before after : Work) (looks : ℕ)
+    (tags : TagMask) (r : Result Subsystems Failure) →
+    RunsTalk (talked c talks.messages command) talks after_it before after r →
+    RunsCommand (done_by c (spent_of before.size looks tags talks.messages) (commands.Messages command) s) s s talks after_it before after r
+unfolding done_by talk_of
+talk_runs c command s talks after_it before after looks tags (Ok set) h =
+    let x : Talk = h.talk in
+    let a = h.text in
+    record {
+      what = talk_done s x;
+      is = ap (talk_does s) h.does;
+      stands = refl;
+      messages = h.messages;
+      notified = h.notified;
+      text = a.text;
+      ops = a.ops ∙ sym (append-nil before.ops.items);
+      size = omega (arith, a.size);
+      changed = h.changed;
+      room = h.room;
+    }
+talk_runs c command s talks after_it before after looks tags (Err failure) h = record {
+  stands = refl;
+  same = h.same;
+  nothing = h.nothing;
+  refusal = talk_refused c command s talks before.size looks tags failure h.refusal;
+}
 
 union-none : (a : Subsystems) → union none a ≡ a
 union-none a = set_ext _ _ (λ x.
@@ -171,9 +246,9 @@ union_none_right a = set_ext _ _ (λ x.
     contains-set_of (λ y. contains a y || contains none y) x
     ∙ ap (λ v. contains a x || v) (contains-set_of (λ _. false) x) ∙ or_false (contains a x))
 
-preceded_twice : (t u : List ℕ) (a b : Subsystems) (os ps : List Op) (r : Ran) →
-    preceded t a os (preceded u b ps r) ≡ preceded (t ++ u) (union a b) (os ++ ps) r
-preceded_twice t u a b os ps r = λ i. record {
+preceded_twice : (t u : List ℕ) (a b : Subsystems) (os ps : List Op) (n m : List ℕ) (r : Ran) →
+    preceded t a os n (preceded u b ps m r) ≡ preceded (t ++ u) (union a b) (os ++ ps) (n ++ m) r
+preceded_twice t u a b os ps n m r = λ i. record {
   after = r.after;
   text = sym (append_assoc t u r.text) i;
   changed = sym (union_assoc a b r.changed) i;
@@ -182,9 +257,11 @@ preceded_twice t u a b os ps r = λ i. record {
   refused_at = r.refused_at;
   looks = r.looks;
   tags = r.tags;
+  messages = r.messages;
+  notified = sym (append_assoc n m r.notified) i;
 }
 
-preceded_none : (r : Ran) → preceded [] none [] r ≡ r
+preceded_none : (r : Ran) → preceded [] none [] [] r ≡ r
 preceded_none r = λ i. record {
   after = r.after;
   text = r.text;
@@ -194,6 +271,8 @@ preceded_none r = λ i. record {
   refused_at = r.refused_at;
   looks = r.looks;
   tags = r.tags;
+  messages = r.messages;
+  notified = r.notified;
 }
 
 -- memory was not refused before this command
@@ -202,28 +281,35 @@ NotBefore index refused = IfSome refused (λ place. index ≤ place)
 
 -- What was done so far: what is left of the request, done from here, makes it whole.
 pub record SoFar
-    (place : Place) (between : List ℕ) (lines rest : List (List ℕ)) (index : ℕ) (first m : MachineState) (before now : Work)
-    (looks : ℕ) (start tags : TagMask) (changes : Subsystems) : Type 0 where
+    (c : ℕ) (place : Place) (between : List ℕ) (lines rest : List (List ℕ)) (index : ℕ) (first m : MachineState) (talks talked : Talks)
+    (before now : Work) (looks : ℕ) (start tags : TagMask) (changes : Subsystems)
+    : Type 0 where
   pub text : List ℕ
   pub made : List Op
+  pub told : List ℕ
   pub written : now.text.items ≡ before.text.items ++ text
   pub ops : now.ops.items ≡ before.ops.items ++ made
+  pub notified : talked.notified.items ≡ talks.notified.items ++ told
   pub room : HasRoom ack_room now
   pub left : index + length rest ≡ length lines
   pub whole : (refused : Option ℕ) → NotBefore index refused →
-      ran place between refused 0 (spent_of before.size 0 start) lines first
-      ≡ preceded text changes made (ran place between refused index (spent_of now.size looks tags) rest m)
+      ran c place between refused 0 (spent_of before.size 0 start talks.messages) lines first
+      ≡ preceded text changes made told (ran c place between refused index (spent_of now.size looks tags talked.messages) rest m)
 
-pub so_far_begins : (place : Place) (between : List ℕ) (lines : List (List ℕ)) (first : MachineState) (before : Work)
-    (start : TagMask) → HasRoom ack_room before → SoFar place between lines lines 0 first first before before 0 start start none
-so_far_begins place between lines first before start room = record {
+pub so_far_begins : (c : ℕ) (place : Place) (between : List ℕ) (lines : List (List ℕ)) (first : MachineState) (talks : Talks)
+    (before : Work) (start : TagMask) → HasRoom ack_room before →
+    SoFar c place between lines lines 0 first first talks talks before before 0 start start none
+so_far_begins c place between lines first talks before start room = record {
   text = [];
   made = [];
+  told = [];
   written = sym (append-nil before.text.items);
   ops = sym (append-nil before.ops.items);
+  notified = sym (append-nil talks.notified.items);
   room = room;
   left = omega arith;
-  whole = λ refused _. sym (preceded_none (ran place between refused 0 (spent_of before.size 0 start) lines first));
+  whole = λ refused _.
+      sym (preceded_none (ran c place between refused 0 (spent_of before.size 0 start talks.messages) lines first));
 }
 
 later_is_not : (index : ℕ) (refused : Option ℕ) → NotBefore (suc index) refused → is_refused_at refused index ≡ false
@@ -235,94 +321,98 @@ later_before index None h = tt
 later_before index (Some place) h = omega (arith, h)
 
 -- the rest of a request behind its next command, which goes well
-next_goes : (place : Place) (between line : List ℕ) (rest : List (List ℕ)) (index : ℕ) (spent : Spent) (refused : Option ℕ)
-    (s : MachineState) (x : Meaning) → is_refused_at refused index ≡ false → attempted place spent line s ≡ Goes x →
-    ran place between refused index spent (line ∷ rest) s
-    ≡ preceded (x.text ++ between) (changed s x.after) x.ops
-    (ran place between refused (suc index) (spent_behind place line s spent x.ops) rest x.after)
+next_goes : (c : ℕ) (place : Place) (between line : List ℕ) (rest : List (List ℕ)) (index : ℕ) (spent : Spent) (refused : Option ℕ)
+    (s : MachineState) (x : Done) → is_refused_at refused index ≡ false → attempted c place spent line s ≡ Goes x →
+    ran c place between refused index spent (line ∷ rest) s
+    ≡ preceded (x.text ++ between) x.changed x.ops x.notified
+    (ran c place between refused (suc index) (spent_on (spent_behind place line s spent) x) rest x.after)
 unfolding ran
-next_goes place between line rest index spent refused s x here did =
+next_goes c place between line rest index spent refused s x here did =
     ap (λ b. cond b (wants_memory s spent index line)
-    (follow between index (spent_behind place line s spent) s (λ n u. ran place between refused (suc index) n rest u)
-    (attempted place spent line s))) here
-    ∙ ap (follow between index (spent_behind place line s spent) s (λ n u. ran place between refused (suc index) n rest u)) did
+    (follow between index (spent_behind place line s spent) s (λ n u. ran c place between refused (suc index) n rest u)
+    (attempted c place spent line s))) here
+    ∙ ap (follow between index (spent_behind place line s spent) s (λ n u. ran c place between refused (suc index) n rest u)) did
 
 -- one command went well
-pub so_far_goes : (place : Place) (between : List ℕ) (lines rest : List (List ℕ)) (line : List ℕ) (index : ℕ)
-    (first s t : MachineState) (before now after : Work) (looks more : ℕ) (start tags behind : TagMask) (changes set : Subsystems) →
-    SoFar place between lines (line ∷ rest) index first s before now looks start tags changes →
-    WentOn between (attempted place (spent_of now.size looks tags) line s) s t now after set →
+pub so_far_goes : (c : ℕ) (place : Place) (between : List ℕ) (lines rest : List (List ℕ)) (line : List ℕ) (index : ℕ)
+    (first s t : MachineState) (talks talked done : Talks) (before now after : Work) (looks more : ℕ) (start tags behind : TagMask)
+    (changes set : Subsystems) →
+    SoFar c place between lines (line ∷ rest) index first s talks talked before now looks start tags changes →
+    WentOn between (attempted c place (spent_of now.size looks tags talked.messages) line s) s t talked done now after set →
     more ≡ looked looks (looks_of_line place line s) → behind ≡ tags_of_line place line s tags →
-    SoFar place between lines rest (suc index) first t before after more start behind (union changes set)
-so_far_goes place between lines rest line index first s t before now after looks more start tags behind changes set far went counted seen =
-    let x : Meaning = went.meaning in
-    let a = went.ops in
+    SoFar c place between lines rest (suc index) first t talks done before after more start behind (union changes set)
+so_far_goes c place between lines rest line index first s t talks talked done before now after looks more start tags behind changes set far
+    went counted seen =
+    let x : Done = went.what in
+    let spent = spent_of now.size looks tags talked.messages in
     record {
       text = far.text ++ (x.text ++ between);
       made = far.made ++ x.ops;
+      told = far.told ++ x.notified;
       written = went.text ∙ ap (λ y. y ++ (x.text ++ between)) far.written
           ∙ append_assoc before.text.items far.text (x.text ++ between);
-      ops = a.ops ∙ ap (λ y. y ++ x.ops) far.ops ∙ append_assoc before.ops.items far.made x.ops;
+      ops = went.ops ∙ ap (λ y. y ++ x.ops) far.ops ∙ append_assoc before.ops.items far.made x.ops;
+      notified = went.notified ∙ ap (λ y. y ++ x.notified) far.notified ∙ append_assoc talks.notified.items far.told x.notified;
       room = went.room;
       left = omega (arith, far.left);
       whole = λ refused later.
           far.whole refused (later_before index refused later)
-          ∙ ap (preceded far.text changes far.made)
-          (next_goes place between line rest index (spent_of now.size looks tags) refused s x (later_is_not index refused later) went.means)
-          ∙ preceded_twice far.text (x.text ++ between) changes (changed s x.after) far.made x.ops
-          (ran place between refused (suc index) (spent_behind place line s (spent_of now.size looks tags) x.ops) rest x.after)
-          ∙ (λ i. preceded (far.text ++ (x.text ++ between)) (union changes (changed s (sym went.stands i))) (far.made ++ x.ops)
-          (ran place between refused (suc index) (spent_of (sym a.size i) (sym counted i) (sym seen i)) rest (sym went.stands i)))
-          ∙ ap (λ c. preceded (far.text ++ (x.text ++ between)) (union changes c) (far.made ++ x.ops)
-          (ran place between refused (suc index) (spent_of after.size more behind) rest t)) (sym went.changed);
+          ∙ ap (preceded far.text changes far.made far.told)
+          (next_goes c place between line rest index spent refused s x (later_is_not index refused later) went.is)
+          ∙ preceded_twice far.text (x.text ++ between) changes x.changed far.made x.ops far.told x.notified
+          (ran c place between refused (suc index) (spent_on (spent_behind place line s spent) x) rest x.after)
+          ∙ (λ i. preceded (far.text ++ (x.text ++ between)) (union changes (sym went.changed i)) (far.made ++ x.ops)
+          (far.told ++ x.notified)
+          (ran c place between refused (suc index) (spent_of (sym went.size i) (sym counted i) (sym seen i) (sym went.messages i)) rest
+          (sym went.stands i)));
     }
 
 -- what the answer to a stop makes of the rest of a request
 pub record StopsIt
-    (place : Place) (between line : List ℕ) (rest : List (List ℕ)) (index : ℕ) (spent : Spent) (s : MachineState) (refused : Option ℕ)
+    (c : ℕ) (place : Place) (between line : List ℕ) (rest : List (List ℕ)) (index : ℕ) (spent : Spent) (s : MachineState) (refused : Option ℕ)
     (ending : Ending) (looks : ℕ) (tags : TagMask) (work done : Work) : Type 0 where
   pub text : List ℕ
-  pub same : ran place between refused index spent (line ∷ rest) s
-      ≡ record (ends s (spent_of 0 looks tags) text ending) { refused_at = refused }
+  pub same : ran c place between refused index spent (line ∷ rest) s
+      ≡ record (ends s (spent_of 0 looks tags spent.messages) text ending) { refused_at = refused }
   pub adds : AddsText text work done
   pub later : NotBefore index refused
   pub within : IfSome refused (λ at. at ≡ index)
 
-pub stops_it : (place : Place) (between line : List ℕ) (rest : List (List ℕ)) (index : ℕ) (spent : Spent) (s : MachineState)
+pub stops_it : (c : ℕ) (place : Place) (between line : List ℕ) (rest : List (List ℕ)) (index : ℕ) (spent : Spent) (s : MachineState)
     (stop : Stop) (refused : Option ℕ) (ending : Ending) (looks : ℕ) (tags : TagMask) (work done : Work)
-    → IsStop (attempted place spent line s) stop
+    → IsStop (attempted c place spent line s) stop
     → CountsLooks (looked spent.looks (looks_of_line place line s)) looks (Err stop)
     → SeesTags (tags_of_line place line s spent.tags) tags (Err stop)
     → AnswersStop s.saved.profile stop index line refused ending work done
-    → StopsIt place between line rest index spent s refused ending (looks_at_end refused looks)
+    → StopsIt c place between line rest index spent s refused ending (looks_at_end refused looks)
     (tags_at_end refused spent.tags tags) work done
 unfolding ran
-stops_it place between line rest index spent s (stops.Ends it) None ending looks tags work done did counted seen answer = record {
+stops_it c place between line rest index spent s (stops.Ends it) None ending looks tags work done did counted seen answer = record {
   text = [];
-  same = ap (follow between index (spent_behind place line s spent) s (λ n u. ran place between None (suc index) n rest u)) did
-      ∙ (λ i. ends s (spent_of 0 (sym counted i) (sym seen i)) [] (sym answer.0 i));
+  same = ap (follow between index (spent_behind place line s spent) s (λ n u. ran c place between None (suc index) n rest u)) did
+      ∙ (λ i. ends s (spent_of 0 (sym counted i) (sym seen i) spent.messages) [] (sym answer.0 i));
   adds = answer.1;
   later = tt;
   within = tt;
 }
-stops_it place between line rest index spent s (stops.Refused refusal) None ending looks tags work done did counted seen answer = record {
+stops_it c place between line rest index spent s (stops.Refused refusal) None ending looks tags work done did counted seen answer = record {
   text = ack index refusal;
-  same = ap (follow between index (spent_behind place line s spent) s (λ n u. ran place between None (suc index) n rest u)) did
-      ∙ (λ i. ends s (spent_of 0 (sym counted i) (sym seen i)) (ack index refusal) (sym answer.0 i));
+  same = ap (follow between index (spent_behind place line s spent) s (λ n u. ran c place between None (suc index) n rest u)) did
+      ∙ (λ i. ends s (spent_of 0 (sym counted i) (sym seen i) spent.messages) (ack index refusal) (sym answer.0 i));
   adds = answer.1;
   later = tt;
   within = tt;
 }
-stops_it place between line rest index spent s stops.NoMemory None ending looks tags work done did counted seen answer = absurd answer
-stops_it place between line rest index spent s stop (Some at) ending looks tags work done did counted seen answer =
+stops_it c place between line rest index spent s stops.NoMemory None ending looks tags work done did counted seen answer = absurd answer
+stops_it c place between line rest index spent s stop (Some at) ending looks tags work done did counted seen answer =
     let wants = answer.1 in
     record {
       text = ack index (want_of_memory (name_of_line s.saved.profile line));
       same = ap (λ b. cond b (wants_memory s spent index line)
-          (follow between index (spent_behind place line s spent) s (λ n u. ran place between (Some at) (suc index) n rest u)
-          (attempted place spent line s)))
+          (follow between index (spent_behind place line s spent) s (λ n u. ran c place between (Some at) (suc index) n rest u)
+          (attempted c place spent line s)))
           (eq-eqb at index answer.0)
-          ∙ (λ i. record (ends s (spent_of 0 max_looks spent.tags) (ack index (want_of_memory (name_of_line s.saved.profile line)))
+          ∙ (λ i. record (ends s (spent_of 0 max_looks spent.tags spent.messages) (ack index (want_of_memory (name_of_line s.saved.profile line)))
           (sym wants.0 i))
           { refused_at = Some (sym answer.0 i) });
       adds = wants.1;
@@ -335,18 +425,20 @@ end_of ending changes refused looks tags =
     record { ending = ending; changed = changes; refused_at = refused; looks = looks; tags = tags }
 
 -- the request has ended
-ran_ends : (place : Place) (between : List ℕ) (lines rest : List (List ℕ)) (index : ℕ) (first s : MachineState) (before now after : Work)
-    (looks all : ℕ) (start tags seen : TagMask) (changes : Subsystems) (refused : Option ℕ) (text : List ℕ) (ending : Ending) →
-    SoFar place between lines rest index first s before now looks start tags changes → NotBefore index refused →
-    ran place between refused index (spent_of now.size looks tags) rest s
-    ≡ record (ends s (spent_of 0 all seen) text ending) { refused_at = refused } → AddsText text now after →
+ran_ends : (c : ℕ) (place : Place) (between : List ℕ) (lines rest : List (List ℕ)) (index : ℕ) (first s : MachineState)
+    (talks talked : Talks) (before now after : Work) (looks all : ℕ) (start tags seen : TagMask) (changes : Subsystems)
+    (refused : Option ℕ) (text : List ℕ) (ending : Ending) →
+    SoFar c place between lines rest index first s talks talked before now looks start tags changes → NotBefore index refused →
+    ran c place between refused index (spent_of now.size looks tags talked.messages) rest s
+    ≡ record (ends s (spent_of 0 all seen talked.messages) text ending) { refused_at = refused } → AddsText text now after →
     IfSome refused (λ at. at < length lines) →
-    RunsLines place between start lines first s before after (end_of ending changes refused all seen)
-ran_ends place between lines rest index first s before now after looks all start tags seen changes refused text ending far later ended adds
-    within =
-    let whole : ran place between refused 0 (spent_of before.size 0 start) lines first
-    ≡ preceded far.text changes far.made (record (ends s (spent_of 0 all seen) text ending) { refused_at = refused }) =
-    far.whole refused later ∙ ap (preceded far.text changes far.made) ended in
+    RunsLines c place between start lines first s talks talked before after (end_of ending changes refused all seen)
+ran_ends c place between lines rest index first s talks talked before now after looks all start tags seen changes refused text ending far
+    later ended adds within =
+    let whole : ran c place between refused 0 (spent_of before.size 0 start talks.messages) lines first
+    ≡ preceded far.text changes far.made far.told
+    (record (ends s (spent_of 0 all seen talked.messages) text ending) { refused_at = refused }) =
+    far.whole refused later ∙ ap (preceded far.text changes far.made far.told) ended in
     record {
       stands = sym (ap (λ r. r.after) whole);
       text = adds.text ∙ ap (λ x. x ++ text) far.written ∙ append_assoc before.text.items far.text text
@@ -358,119 +450,144 @@ ran_ends place between lines rest index first s before now after looks all start
       refused_at = sym (ap (λ r. r.refused_at) whole);
       looks = sym (ap (λ r. r.looks) whole);
       sees = sym (ap (λ r. r.tags) whole);
+      messages = sym (ap (λ r. r.messages) whole);
+      notified = far.notified
+          ∙ sym (ap (λ r. talks.notified.items ++ r.notified) whole ∙ ap (λ x. talks.notified.items ++ x) (append-nil far.told));
       within = within;
     }
+
+-- memory that was taken changes nothing of what was sent
+same_talks : (c : ℕ) (place : Place) (between : List ℕ) (tags : TagMask) (lines : List (List ℕ)) (first s : MachineState)
+    (talks talked last : Talks) (before after : Work) (end : RequestEnd) → IsSame talked last →
+    RunsLines c place between tags lines first s talks talked before after end →
+    RunsLines c place between tags lines first s talks last before after end
+same_talks c place between tags lines first s talks talked last before after end same runs = record {
+  stands = runs.stands;
+  text = runs.text;
+  ops = runs.ops;
+  changed = runs.changed;
+  ending = runs.ending;
+  refused_at = runs.refused_at;
+  looks = runs.looks;
+  sees = runs.sees;
+  messages = same.messages ∙ runs.messages;
+  notified = same.notified ∙ runs.notified;
+  within = runs.within;
+}
 
 at_within : (index count : ℕ) (refused : Option ℕ) → index < count → IfSome refused (λ at. at ≡ index) → IfSome refused (λ at. at < count)
 at_within index count None below h = tt
 at_within index count (Some at) below h = omega (arith, below, h)
 
 -- the next command stopped it
-pub ran_stops : (place : Place) (between : List ℕ) (lines whole rest : List (List ℕ)) (bytes : List ℕ) (index : ℕ)
-    (first s t : MachineState) (before now mid after : Work) (looks more all : ℕ) (start tags behind seen : TagMask) (changes : Subsystems)
-    (stop : Stop) (refused : Option ℕ) (ending : Ending) → whole ≡ bytes ∷ rest
-    → SoFar place between lines whole index first s before now looks start tags changes →
-    Stopped (attempted place (spent_of now.size looks tags) bytes s) s t now mid stop →
+pub ran_stops : (c : ℕ) (place : Place) (between : List ℕ) (lines whole rest : List (List ℕ)) (bytes : List ℕ) (index : ℕ)
+    (first s t : MachineState) (talks talked last : Talks) (before now mid after : Work) (looks more all : ℕ)
+    (start tags behind seen : TagMask) (changes : Subsystems) (stop : Stop) (refused : Option ℕ) (ending : Ending) → whole ≡ bytes ∷ rest
+    → SoFar c place between lines whole index first s talks talked before now looks start tags changes →
+    Stopped (attempted c place (spent_of now.size looks tags talked.messages) bytes s) s t talked last now mid stop →
     CountsLooks (looked looks (looks_of_line place bytes s)) more (Err stop) → all ≡ looks_at_end refused more →
     SeesTags (tags_of_line place bytes s tags) behind (Err stop) → seen ≡ tags_at_end refused tags behind →
     AnswersStop t.saved.profile stop index bytes refused ending mid after →
-    RunsLines place between start lines first t before after (end_of ending changes refused all seen)
-ran_stops place between lines whole rest bytes index first s t before now mid after looks more all start tags behind seen changes stop
-    refused
-    ending parts whole_far stopped counted is sees at_end answer =
-    let far : SoFar place between lines (bytes ∷ rest) index first s before now looks start tags changes =
-    subst (λ r. SoFar place between lines r index first s before now looks start tags changes) parts whole_far in
-    let it = stops_it place between bytes rest index (spent_of now.size looks tags) s stop refused ending more behind mid after stopped.why
-    counted sees
+    RunsLines c place between start lines first t talks last before after (end_of ending changes refused all seen)
+ran_stops c place between lines whole rest bytes index first s t talks talked last before now mid after looks more all start tags behind seen
+    changes stop refused ending parts whole_far stopped counted is sees at_end answer =
+    let far : SoFar c place between lines (bytes ∷ rest) index first s talks talked before now looks start tags changes =
+    subst (λ r. SoFar c place between lines r index first s talks talked before now looks start tags changes) parts whole_far in
+    let it = stops_it c place between bytes rest index (spent_of now.size looks tags talked.messages) s stop refused ending more behind mid
+    after stopped.why counted sees
     (subst (λ (u : MachineState). AnswersStop u.saved.profile stop index bytes refused ending mid after) stopped.stands answer) in
     let nothing = stopped.nothing in
     let adds = it.adds in
-    subst (λ u. RunsLines place between start lines first u before after (end_of ending changes refused all seen)) (sym stopped.stands)
-    (ran_ends place between lines (bytes ∷ rest) index first s before now after looks all start tags seen changes refused it.text ending far
-    it.later
-    (it.same ∙ (λ i. record (ends s (spent_of 0 (sym is i) (sym at_end i)) it.text ending) { refused_at = refused }))
+    subst (λ u. RunsLines c place between start lines first u talks last before after (end_of ending changes refused all seen))
+    (sym stopped.stands)
+    (same_talks c place between start lines first s talks talked last before after (end_of ending changes refused all seen) stopped.same
+    (ran_ends c place between lines (bytes ∷ rest) index first s talks talked before now after looks all start tags seen changes refused
+    it.text ending far it.later
+    (it.same ∙ (λ i. record (ends s (spent_of 0 (sym is i) (sym at_end i) talked.messages) it.text ending) { refused_at = refused }))
     (record {
       text = adds.text ∙ ap (λ x. x ++ it.text) nothing.text;
       ops = adds.ops ∙ nothing.ops;
       size = adds.size ∙ nothing.size;
     })
-    (at_within index (length lines) refused (omega (arith, far.left)) it.within))
+    (at_within index (length lines) refused (omega (arith, far.left)) it.within)))
 
-pub ran_goes : (place : Place) (between : List ℕ) (lines whole rest : List (List ℕ)) (bytes : List ℕ) (index : ℕ)
-    (first s t : MachineState) (before now after : Work) (looks more : ℕ) (start tags behind : TagMask) (changes set : Subsystems)
-    → whole ≡ bytes ∷ rest →
-    SoFar place between lines whole index first s before now looks start tags changes →
-    WentOn between (attempted place (spent_of now.size looks tags) bytes s) s t now after set →
+pub ran_goes : (c : ℕ) (place : Place) (between : List ℕ) (lines whole rest : List (List ℕ)) (bytes : List ℕ) (index : ℕ)
+    (first s t : MachineState) (talks talked done : Talks) (before now after : Work) (looks more : ℕ) (start tags behind : TagMask)
+    (changes set : Subsystems) → whole ≡ bytes ∷ rest →
+    SoFar c place between lines whole index first s talks talked before now looks start tags changes →
+    WentOn between (attempted c place (spent_of now.size looks tags talked.messages) bytes s) s t talked done now after set →
     more ≡ looked looks (looks_of_line place bytes s) → behind ≡ tags_of_line place bytes s tags →
-    SoFar place between lines rest (index + 1) first t before after more start behind (union changes set)
-ran_goes place between lines whole rest bytes index first s t before now after looks more start tags behind changes set parts far h counted
-    seen =
-    subst (λ n. SoFar place between lines rest n first t before after more start behind (union changes set)) (omega arith)
-    (so_far_goes place between lines rest bytes index first s t before now after looks more start tags behind changes set
-    (subst (λ r. SoFar place between lines r index first s before now looks start tags changes) parts far) h counted seen)
+    SoFar c place between lines rest (index + 1) first t talks done before after more start behind (union changes set)
+ran_goes c place between lines whole rest bytes index first s t talks talked done before now after looks more start tags behind changes set
+    parts far h counted seen =
+    subst (λ n. SoFar c place between lines rest n first t talks done before after more start behind (union changes set)) (omega arith)
+    (so_far_goes c place between lines rest bytes index first s t talks talked done before now after looks more start tags behind changes set
+    (subst (λ r. SoFar c place between lines r index first s talks talked before now looks start tags changes) parts far) h counted seen)
 
-next_none : (place : Place) (between : List ℕ) (index : ℕ) (spent : Spent) (s : MachineState) →
-    ran place between None index spent [] s ≡ ends s spent ok Answered
+next_none : (c : ℕ) (place : Place) (between : List ℕ) (index : ℕ) (spent : Spent) (s : MachineState) →
+    ran c place between None index spent [] s ≡ ends s spent ok Answered
 unfolding ran
-next_none place between index spent s = refl
+next_none c place between index spent s = refl
 
-pub ran_all : (place : Place) (between : List ℕ) (lines rest : List (List ℕ)) (index : ℕ) (first s : MachineState)
-    (before now after : Work) (looks all : ℕ) (start tags : TagMask) (changes : Subsystems) → rest ≡ [] →
-    SoFar place between lines rest index first s before now looks start tags changes → all ≡ looks → AddsText ok now after →
-    RunsLines place between start lines first s before after (end_of Answered changes None all tags)
-ran_all place between lines [] index first s before now after looks all start tags changes empty far is h =
-    ran_ends place between lines [] index first s before now after looks all start tags tags changes None ok Answered far tt
-    (next_none place between index (spent_of now.size looks tags) s ∙ (λ i. ends s (spent_of 0 (sym is i) tags) ok Answered)) h tt
-ran_all place between lines (r ∷ rest) index first s before now after looks all start tags changes empty far is h = cc
+pub ran_all : (c : ℕ) (place : Place) (between : List ℕ) (lines rest : List (List ℕ)) (index : ℕ) (first s : MachineState)
+    (talks talked : Talks) (before now after : Work) (looks all : ℕ) (start tags : TagMask) (changes : Subsystems) → rest ≡ [] →
+    SoFar c place between lines rest index first s talks talked before now looks start tags changes → all ≡ looks → AddsText ok now after →
+    RunsLines c place between start lines first s talks talked before after (end_of Answered changes None all tags)
+ran_all c place between lines [] index first s talks talked before now after looks all start tags changes empty far is h =
+    ran_ends c place between lines [] index first s talks talked before now after looks all start tags tags changes None ok Answered far tt
+    (next_none c place between index (spent_of now.size looks tags talked.messages) s
+    ∙ (λ i. ends s (spent_of 0 (sym is i) tags talked.messages) ok Answered)) h tt
+ran_all c place between lines (r ∷ rest) index first s talks talked before now after looks all start tags changes empty far is h = cc
 
 -- a command that went well, and what stands behind it
-pub went_on : (named : NamedCommand) (separator : List ℕ) (s t : MachineState) (before mid after : Work) (looks : ℕ) (tags : TagMask)
-    (set : Subsystems) →
-    Went s.saved.profile (weighed looks (looks_of named.command s) (meaning tags named.command s)) t before mid → ending_of named.command
-    ≡ None →
-    AddsText separator mid after → HasRoom ack_room after → set ≡ changed s t →
-    WentOn separator (performed (spent_of before.size looks tags) named s) s t before after set
-went_on named separator s t before mid after looks tags set went is adds room same =
-    let x : Meaning = went.meaning in
-    let a = went.ops in
+pub went_on : (c : ℕ) (spent : Spent) (named : NamedCommand) (separator : List ℕ) (s t : MachineState) (talks talked : Talks)
+    (before mid after : Work) (set : Subsystems) →
+    IsPerformed (done_by c spent named.command s) s t talks talked before mid set → ending_of named.command ≡ None →
+    AddsText separator mid after → HasRoom ack_room after →
+    WentOn separator (performed c spent named s) s t talks talked before after set
+went_on c spent named separator s t talks talked before mid after set went is adds room =
+    let x : Done = went.what in
     record {
-      meaning = x;
-      means = performed_goes named s t before mid looks tags went is;
+      what = x;
+      is = performed_did c spent named s (Ok x) is went.is;
       stands = went.stands;
+      messages = went.messages;
+      notified = went.notified;
       text = adds.text ∙ ap (λ y. y ++ separator) went.text ∙ append_assoc before.text.items x.text separator;
-      ops = record { ops = adds.ops ∙ a.ops; size = adds.size ∙ a.size; fits = omega (arith, adds.size, a.fits) };
-      changed = same;
+      ops = adds.ops ∙ went.ops;
+      size = adds.size ∙ went.size;
+      changed = went.changed;
       room = room;
     }
 
 -- a line of which no words, or no command, were read
-pub words_stop : (place : Place) (spent : Spent) (line : List ℕ) (m : MachineState) (error : ReadError) (stop : Stop) →
-    GivesWords (Err error) (line_words line) → stop ≡ stop_of_reading error → IsStop (attempted place spent line m) stop
-words_stop place spent line m (errors.Refused refusal) stop read is =
-    subst (IsStop (attempted place spent line m)) (sym is) (words_refused place spent line m refusal read)
-words_stop place spent line m errors.NoMemory stop read is = subst (IsStop (attempted place spent line m)) (sym is) tt
+pub words_stop : (c : ℕ) (place : Place) (spent : Spent) (line : List ℕ) (m : MachineState) (error : ReadError) (stop : Stop) →
+    GivesWords (Err error) (line_words line) → stop ≡ stop_of_reading error → IsStop (attempted c place spent line m) stop
+words_stop c place spent line m (errors.Refused refusal) stop read is =
+    subst (IsStop (attempted c place spent line m)) (sym is) (words_refused c place spent line m refusal read)
+words_stop c place spent line m errors.NoMemory stop read is = subst (IsStop (attempted c place spent line m)) (sym is) tt
 
-pub command_stop : (place : Place) (spent : Spent) (line : List ℕ) (words slice : List (List ℕ)) (m : MachineState) (error : ReadError)
+pub command_stop : (c : ℕ) (place : Place) (spent : Spent) (line : List ℕ) (words slice : List (List ℕ)) (m : MachineState) (error : ReadError)
     (stop : Stop) → line_words line ≡ Ok words → slice ≡ words → Gives {A = NamedCommand} (Err error)
     (command_of m.saved.profile place slice) →
-    stop ≡ stop_of_reading error → IsStop (attempted place spent line m) stop
-command_stop place spent line words slice m (errors.Refused refusal) stop parted same read is =
-    subst (IsStop (attempted place spent line m)) (sym is)
-    (command_refused place spent line slice m refusal (parted ∙ ap Ok (sym same)) read)
-command_stop place spent line words slice m errors.NoMemory stop parted same read is =
-    subst (IsStop (attempted place spent line m)) (sym is) tt
+    stop ≡ stop_of_reading error → IsStop (attempted c place spent line m) stop
+command_stop c place spent line words slice m (errors.Refused refusal) stop parted same read is =
+    subst (IsStop (attempted c place spent line m)) (sym is)
+    (command_refused c place spent line slice m refusal (parted ∙ ap Ok (sym same)) read)
+command_stop c place spent line words slice m errors.NoMemory stop parted same read is =
+    subst (IsStop (attempted c place spent line m)) (sym is) tt
 
 -- a command that was read runs as its line does, and looks at what its line looks at
-pub line_runs : (place : Place) (between line : List ℕ) (words slice : List (List ℕ)) (named : NamedCommand) (s t : MachineState)
-    (before mid after : Work) (looks : ℕ) (tags : TagMask) (r : Result Subsystems Stop) → line_words line ≡ Ok words → slice ≡ words →
-    command_of s.saved.profile place slice ≡ Ok named → AddsNothing before mid →
-    RunsLine between (performed (spent_of mid.size looks tags) named s) s t mid after r →
-    RunsLine between (attempted place (spent_of before.size looks tags) line s) s t before after r
-line_runs place between line words slice named s t before mid after looks tags r parted same read nothing h =
-    runs_from between (attempted place (spent_of before.size looks tags) line s) s t before mid after r nothing
-    (subst (λ did. RunsLine between did s t mid after r)
-    (ap (λ n. performed (spent_of n looks tags) named s) nothing.size
-    ∙ read_performed place (spent_of before.size looks tags) line slice s named (parted ∙ ap Ok (sym same)) read) h)
+pub line_runs : (c : ℕ) (place : Place) (between line : List ℕ) (words slice : List (List ℕ)) (named : NamedCommand) (s t : MachineState)
+    (talks talked : Talks) (before mid after : Work) (looks : ℕ) (tags : TagMask) (r : Result Subsystems Stop) →
+    line_words line ≡ Ok words → slice ≡ words → command_of s.saved.profile place slice ≡ Ok named → AddsNothing before mid →
+    RunsLine between (performed c (spent_of mid.size looks tags talks.messages) named s) s t talks talked mid after r →
+    RunsLine between (attempted c place (spent_of before.size looks tags talks.messages) line s) s t talks talked before after r
+line_runs c place between line words slice named s t talks talked before mid after looks tags r parted same read nothing h =
+    runs_from between (attempted c place (spent_of before.size looks tags talks.messages) line s) s t talks talked before mid after r nothing
+    (subst (λ did. RunsLine between did s t talks talked mid after r)
+    (ap (λ n. performed c (spent_of n looks tags talks.messages) named s) nothing.size
+    ∙ read_performed c place (spent_of before.size looks tags talks.messages) line slice s named (parted ∙ ap Ok (sym same)) read) h)
 
 pub line_looks : (place : Place) (line : List ℕ) (words slice : List (List ℕ)) (named : NamedCommand) (m : MachineState) →
     line_words line ≡ Ok words → slice ≡ words → command_of m.saved.profile place slice ≡ Ok named →
@@ -597,53 +714,56 @@ command_counts place line words slice m (errors.Refused refusal) stop looks part
 command_counts place line words slice m errors.NoMemory stop looks parted same read is =
     subst (λ (it : Stop). CountsLooks (looked looks (looks_of_line place line m)) looks (Err it)) (sym is) tt
 
--- what a request that ran makes of the clients doesn't hang on the machine before it
-of_ran_same : (c : ℕ) (clients : List Watched) (masks : List ClientMask) (m n : MachineState) (r : Ran) (ending : Ending) →
-    of_ran c (record { machine = m; clients = clients; masks = masks }) r ending
-    ≡ of_ran c (record { machine = n; clients = clients; masks = masks }) r ending
-of_ran_same c clients masks m n r Answered = refl
-of_ran_same c clients masks m n r Closed = refl
-of_ran_same c clients masks m n r Killed = refl
-of_ran_same c clients masks m n r (Waits mask) = refl
+-- What a request that ran makes of the clients doesn't hang on the machine and the messages before it.
+of_ran_same : (c : ℕ) (clients : List Watched) (masks : List ClientMask) (messages others : List Listener) (m n : MachineState) (r : Ran)
+    (ending : Ending) → of_ran c (record { machine = m; clients = clients; masks = masks; messages = messages }) r ending
+    ≡ of_ran c (record { machine = n; clients = clients; masks = masks; messages = others }) r ending
+of_ran_same c clients masks messages others m n r Answered = refl
+of_ran_same c clients masks messages others m n r Closed = refl
+of_ran_same c clients masks messages others m n r Killed = refl
+of_ran_same c clients masks messages others m n r (Waits mask) = refl
 
 -- the lines of a request were run, and its end was made
 pub lines_do : (c : ℕ) (place : Place) (between : List ℕ) (lines : List (List ℕ)) (before mid after : CoreParts) (fresh work : Work)
     (tags : TagMask) (end : RequestEnd) (handled : Handled) → fresh.text.items ≡ [] → fresh.ops.items ≡ [] →
-    fresh.size ≡ checksum_len before.machine.saved.profile →
-    RunsLines place between tags lines before.machine mid.machine fresh work end → mid.watch ≡ before.watch →
+    fresh.size ≡ checksum_len before.machine.saved.profile → before.talks.notified.items ≡ [] →
+    RunsLines c place between tags lines before.machine mid.machine before.talks mid.talks fresh work end → mid.watch ≡ before.watch →
     mid.masks.list.items ≡ before.masks.list.items → tags ≡ tags_seen before.masks.list.items c →
-    Does (of_ran c (state_of mid) (ran_of mid.machine work end) end.ending) after handled →
-    Does (runs c (state_of before) (ran place between handled.outcome.refused_at 0 (unspent before.machine
-    (tags_seen before.masks.list.items c)) lines before.machine)) after handled
-lines_do c place between lines before mid after fresh work tags end handled text ops size ran_so watch masks seen does =
-    let r : Ran = ran place between end.refused_at 0 (unspent before.machine (tags_seen before.masks.list.items c)) lines before.machine in
-    let here : ran place between end.refused_at 0 (spent_of fresh.size 0 tags) lines before.machine ≡ r =
-    (λ i. ran place between end.refused_at 0 (spent_of (size i) 0 (seen i)) lines before.machine) in
-    let same : ran_of mid.machine work end ≡ r = λ i. record {
+    Does (of_ran c (state_of mid) (ran_of mid.machine mid.talks work end) end.ending) after handled →
+    Does (runs c (state_of before) (ran c place between handled.outcome.refused_at 0 (begun c (state_of before)) lines before.machine))
+    after handled
+lines_do c place between lines before mid after fresh work tags end handled text ops size nobody ran_so watch masks seen does =
+    let r : Ran = ran c place between end.refused_at 0 (begun c (state_of before)) lines before.machine in
+    let mine : Ran = ran c place between end.refused_at 0 (spent_of fresh.size 0 tags before.talks.messages) lines before.machine in
+    let here : mine ≡ r =
+    (λ i. ran c place between end.refused_at 0 (spent_of (size i) 0 (seen i) before.talks.messages) lines before.machine) in
+    let same : ran_of mid.machine mid.talks work end ≡ r = λ i. record {
       after = (ran_so.stands ∙ ap (λ x. x.after) here) i;
-      text = (ran_so.text ∙ ap (λ t. t ++ (ran place between end.refused_at 0 (spent_of fresh.size 0 tags) lines before.machine).text) text
-          ∙ ap (λ x. x.text) here) i;
+      text = (ran_so.text ∙ ap (λ t. t ++ mine.text) text ∙ ap (λ x. x.text) here) i;
       changed = (ran_so.changed ∙ ap (λ x. x.changed) here) i;
-      ops = (ran_so.ops ∙ ap (λ t. t ++ (ran place between end.refused_at 0 (spent_of fresh.size 0 tags) lines before.machine).ops) ops
-          ∙ ap (λ x. x.ops) here) i;
+      ops = (ran_so.ops ∙ ap (λ t. t ++ mine.ops) ops ∙ ap (λ x. x.ops) here) i;
       ending = (ran_so.ending ∙ ap (λ x. x.ending) here) i;
       refused_at = (ran_so.refused_at ∙ ap (λ x. x.refused_at) here) i;
       looks = (ran_so.looks ∙ ap (λ x. x.looks) here) i;
       tags = (ran_so.sees ∙ ap (λ x. x.tags) here) i;
+      messages = (ran_so.messages ∙ ap (λ x. x.messages) here) i;
+      notified = (ran_so.notified ∙ ap (λ t. t ++ mine.notified) nobody ∙ ap (λ x. x.notified) here) i;
     } in
     let at : handled.outcome.refused_at ≡ end.refused_at =
-    does.refused_at ∙ of_ran_place c (state_of mid) (ran_of mid.machine work end) end.ending in
-    subst (λ place_at. Does (runs c (state_of before) (ran place between place_at 0 (unspent before.machine
-    (tags_seen before.masks.list.items c)) lines before.machine)) after handled) (sym at)
+    does.refused_at ∙ of_ran_place c (state_of mid) (ran_of mid.machine mid.talks work end) end.ending in
+    subst (λ place_at. Does (runs c (state_of before)
+    (ran c place between place_at 0 (begun c (state_of before)) lines before.machine)) after handled) (sym at)
     (subst (λ a. Does a after handled)
-    ((λ i. of_ran c (record { machine = mid.machine; clients = watch i; masks = masks i }) (same i) (same i).ending)
-    ∙ of_ran_same c before.watch before.masks.list.items mid.machine before.machine r r.ending) does)
+    ((λ i. of_ran c (record { machine = mid.machine; clients = watch i; masks = masks i; messages = mid.talks.messages }) (same i)
+    (same i).ending)
+    ∙ of_ran_same c before.watch before.masks.list.items mid.talks.messages before.talks.messages mid.machine before.machine r r.ending)
+    does)
 
-pub lines_place : (c : ℕ) (place : Place) (between : List ℕ) (lines : List (List ℕ)) (first t : MachineState) (mid after : CoreParts)
-    (fresh work : Work) (tags : TagMask) (end : RequestEnd) (handled : Handled) → RunsLines place between tags lines first t fresh work
-    end →
-    Does (of_ran c (state_of mid) (ran_of mid.machine work end) end.ending) after handled →
+pub lines_place : (c : ℕ) (place : Place) (between : List ℕ) (lines : List (List ℕ)) (first t : MachineState) (talks : Talks)
+    (mid after : CoreParts) (fresh work : Work) (tags : TagMask) (end : RequestEnd) (handled : Handled) →
+    RunsLines c place between tags lines first t talks mid.talks fresh work end →
+    Does (of_ran c (state_of mid) (ran_of mid.machine mid.talks work end) end.ending) after handled →
     IfSome handled.outcome.refused_at (λ k. k < length lines)
-lines_place c place between lines first t mid after fresh work tags end handled ran_so does =
+lines_place c place between lines first t talks mid after fresh work tags end handled ran_so does =
     subst (λ at. IfSome at (λ k. k < length lines))
-    (sym (does.refused_at ∙ of_ran_place c (state_of mid) (ran_of mid.machine work end) end.ending)) ran_so.within
+    (sym (does.refused_at ∙ of_ran_place c (state_of mid) (ran_of mid.machine mid.talks work end) end.ending)) ran_so.within

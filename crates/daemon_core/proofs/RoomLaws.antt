@@ -5,12 +5,13 @@ use Rattle.std.specs.List.{cons_option, list_all}
 use Rattle.std.specs.Prelude.{IsSome, IsOk, OnOk, OnErr, Result, Ok, Err, ◌↔◌}
 use Rattle.std.proofs.lemmas.Bool.{false≢true}
 use Rattle.idle_masks.specs.Subsystems.{none, difference, is_empty}
-use Rattle.idle_masks.specs.Watched.{watched, left, with_waiting, marked, due, reports_of, reported}
+use Rattle.idle_masks.specs.Watched.{watched, left, with_waiting, due, reports_of, reported}
 use Rattle.idle_masks.specs.Watched.{after_reports}
 use Rattle.idle_masks.specs.declared.ready.Report.{Report}
 use Rattle.idle_masks.specs.declared.refusal.WatchError.{WatchError}
 use Rattle.idle_masks.specs.declared.subsystem.Subsystems.{Subsystems}
 use Rattle.idle_masks.specs.declared.watch.Watched.{Watched}
+use Rattle.daemon_core.specs.Pending.{with_news}
 use Rattle.daemon_core.specs.Room.{IsRoomFor, KeepsRoom}
 use Rattle.daemon_core.specs.declared.room.Room.{Room}
 use Rattle.daemon_core.proofs.PendingLaws.{set_ext, contains-set_of, contains-empty}
@@ -27,20 +28,21 @@ reports_fit (w ∷ ws) =
     let one = one_at_most (record { client = w.client; changed = due w }) (reports_of ws) (is_empty (due w)) in
     omega (arith, one, reports_fit ws)
 
-pub marked_length : (ws : List Watched) (changed : Subsystems) → length (marked ws changed) ≡ length ws
-marked_length [] changed = refl
-marked_length (w ∷ ws) changed = ap suc (marked_length ws changed)
+pub news_length : (ws : List Watched) (changed : Subsystems) (notified : List ℕ) → length (with_news changed notified ws) ≡ length ws
+news_length [] changed notified = refl
+news_length (w ∷ ws) changed notified = ap suc (news_length ws changed notified)
 
--- nothing more is pending where nothing changed
-marked_none : (ws : List Watched) → marked ws none ≡ ws
-marked_none [] = refl
-marked_none (w ∷ ws) = λ i. record w { pending = union_none_right w.pending i } ∷ marked_none ws i
+-- nothing more is pending where nothing changed and nobody is notified
+no_news : (ws : List Watched) → with_news none [] ws ≡ ws
+no_news [] = refl
+no_news (w ∷ ws) = λ i. record w { pending = union_none_right w.pending i } ∷ no_news ws i
 
 is_none : (set : Subsystems) → is_empty set ≡ true → set ≡ none
 is_none set empty = set_ext set none (λ x. contains-empty set x empty ∙ sym (contains-set_of (λ _. false) x))
 
-pub marked_nothing : (ws : List Watched) (changed : Subsystems) → is_empty changed ≡ true → marked ws changed ≡ ws
-marked_nothing ws changed empty = ap (marked ws) (is_none changed empty) ∙ marked_none ws
+pub none_news : (ws : List Watched) (changed : Subsystems) (notified : List ℕ) → is_empty changed ≡ true → notified ≡ [] →
+    with_news changed notified ws ≡ ws
+none_news ws changed notified empty nobody = (λ i. with_news (is_none changed empty i) (nobody i) ws) ∙ no_news ws
 
 -- where nothing is due, nothing is reported
 both_true : (a b : Bool) → (a && b) ≡ true → (a ≡ true) × (b ≡ true)

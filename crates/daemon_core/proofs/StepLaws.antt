@@ -2,7 +2,7 @@
 use Rattle.std.proofs.Common.{◌≡◌, ◌≤◌, ◌<◌, ◌++◌, length, map, Some, sym, ◌∙◌, ap, arith}
 use Rattle.std.specs.Global.{Vec}
 use Rattle.std.specs.Prelude.{IfSome}
-use Rattle.idle_masks.specs.Watched.{marked, reports_of, after_reports}
+use Rattle.idle_masks.specs.Watched.{reports_of, after_reports}
 use Rattle.machine_core.specs.Size.{max_request_bytes}
 use Rattle.machine_core.proofs.Sizes.{body_len}
 use Rattle.state_codec.specs.Applied.{all_applied}
@@ -10,6 +10,7 @@ use Rattle.state_codec.specs.Spelling.{body_bytes}
 use Rattle.daemon_core.specs.Handled.{Does}
 use Rattle.daemon_core.specs.Outcome.{IsOutcome, command_count}
 use Rattle.daemon_core.specs.Parts.{state_of}
+use Rattle.daemon_core.specs.Pending.{with_news}
 use Rattle.daemon_core.specs.Reported.{IsReported}
 use Rattle.daemon_core.specs.State.{State, with_clients}
 use Rattle.daemon_core.specs.Step.{acted, told_to, step}
@@ -22,15 +23,23 @@ use Rattle.daemon_core.proofs.RebuildLaws.{CommandsRebuild, step_rebuilds}
 
 pub is_outcome : (s : State) (event : Event) (p q : CoreParts) (handled : Handled) (outputs : Vec Output) →
     Does (acted s event handled.outcome.refused_at) p handled →
-    outputs.items ≡ handled.outcome.outputs.items ++ map told_to (reports_of (marked p.watch handled.changed)) →
-    q.watch ≡ after_reports (marked p.watch handled.changed) → q.machine ≡ p.machine → q.masks ≡ p.masks →
+    outputs.items ≡ handled.outcome.outputs.items ++ map told_to (reports_of (with_news handled.changed p.talks.notified.items p.watch)) →
+    q.watch ≡ after_reports (with_news handled.changed p.talks.notified.items p.watch) → q.machine ≡ p.machine → q.masks ≡ p.masks →
+    q.talks ≡ p.talks →
     IfSome handled.outcome.refused_at (λ k. k < command_count event) →
     IsOutcome s event (record handled.outcome { outputs = outputs }) (state_of q)
 unfolding step
-is_outcome s event p q handled outputs does told watch machine masks place = record {
-  after = (λ i. record { machine = machine i; clients = watch i; masks = (let m = masks i in m.list.items) })
-      ∙ (λ i. with_clients (does.state i) (after_reports (marked (let v = does.state i in v.clients) (does.changed i))));
-  outputs = told ∙ (λ i. does.answer i ++ map told_to (reports_of (marked (let v = does.state i in v.clients) (does.changed i))));
+is_outcome s event p q handled outputs does told watch machine masks talks place = record {
+  after = (λ i. record {
+    machine = machine i;
+    clients = watch i;
+    masks = (let m = masks i in m.list.items);
+    messages = (let t = talks i in t.messages);
+  })
+      ∙ (λ i. with_clients (does.state i)
+      (after_reports (with_news (does.changed i) (does.notified i) (let v = does.state i in v.clients))));
+  outputs = told
+      ∙ (λ i. does.answer i ++ map told_to (reports_of (with_news (does.changed i) (does.notified i) (let v = does.state i in v.clients))));
   closes = does.closes;
   ops = does.ops;
   ended = does.ended;

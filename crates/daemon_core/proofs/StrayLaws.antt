@@ -6,7 +6,7 @@ use Rattle.std.specs.Option.{option_eq}
 use Rattle.std.proofs.lemmas.Bool.{and_from, and_parts, false≢true}
 use Rattle.std.proofs.Math.Bool.{or-false}
 use Rattle.idle_masks.specs.Subsystems.{contains, none, union, is_empty, difference}
-use Rattle.idle_masks.specs.Watched.{watched, left, marked, due, report_of, reported, reports_of, after_reports}
+use Rattle.idle_masks.specs.Watched.{watched, left, due, report_of, reported, reports_of, after_reports}
 use Rattle.idle_masks.specs.declared.ready.Report.{Report}
 use Rattle.idle_masks.specs.declared.subsystem.Subsystems.{Subsystems}
 use Rattle.idle_masks.specs.declared.watch.Watched.{Watched}
@@ -39,17 +39,18 @@ use Rattle.player_core.specs.declared.settings.PlaySettings.{PlaySettings}
 use Rattle.song_db.specs.Row.{Row}
 use Rattle.state_codec.specs.OpsSettings.{same_flag, same_single}
 use Rattle.state_codec.specs.SavedState.{SavedState}
+use Rattle.daemon_core.specs.Pending.{with_news}
 use Rattle.daemon_core.specs.Quiet.{is_quiet}
 use Rattle.daemon_core.specs.Replay.{Entry, stepped, replay}
 use Rattle.daemon_core.specs.Session.{nothing, happened}
-use Rattle.daemon_core.specs.State.{State, clocked, with_clients, with_masks}
+use Rattle.daemon_core.specs.State.{State, clocked, with_clients, with_masks, with_messages}
 use Rattle.daemon_core.specs.Step.{Stepped, connects_client, requested_by, waiting_of, acted, settles, step}
 use Rattle.daemon_core.specs.Stray.{is_stop, is_late, is_over, is_stray, stays}
 use Rattle.daemon_core.specs.declared.event.Event.{Event}
 use Rattle.daemon_core.specs.declared.event.Event.TheVariants as events
 use Rattle.daemon_core.proofs.PendingLaws.{contains-set_of, set_ext}
 use Rattle.daemon_core.proofs.QuietLaws.{quiet}
-use Rattle.daemon_core.proofs.SeenLaws.{masks_absent}
+use Rattle.daemon_core.proofs.SeenLaws.{masks_absent, messages_absent}
 
 -- Where nobody waits for what is pending for it, an event that does nothing tells nobody.
 union-none : (s : Subsystems) → union s none ≡ s
@@ -57,9 +58,9 @@ union-none s = set_ext _ _ (λ x.
     contains-set_of (λ y. contains s y || contains none y) x
     ∙ ap (λ b. contains s x || b) (contains-set_of (λ _. false) x) ∙ or-false (contains s x))
 
-marked-none : (ws : List Watched) → marked ws none ≡ ws
-marked-none [] = refl
-marked-none (w ∷ ws) = λ i. (record w { pending = union-none w.pending i }) ∷ marked-none ws i
+no_news : (ws : List Watched) → with_news none [] ws ≡ ws
+no_news [] = refl
+no_news (w ∷ ws) = λ i. (record w { pending = union-none w.pending i }) ∷ no_news ws i
 
 not_told : (w : Watched) → is_empty (due w) ≡ true → reported w ≡ w
 not_told w h = ap (λ b. cond b w (record w { pending = difference w.pending (due w); waiting = None })) h
@@ -87,13 +88,13 @@ tells s clients reports = record {
   refused_at = None;
   looks = 0;
   ended = false;
-  moment = record { connected = None; changed = none; reports = reports };
+  moment = record { connected = None; changed = none; notified = []; reports = reports };
 }
 
 pub nothing_told : (s : State) → is_quiet s.clients ≡ true → settles (nothing s) ≡ stays s
 nothing_told s h =
-    let clients : after_reports (marked s.clients none) ≡ s.clients = ap after_reports (marked-none s.clients) ∙ none_told s.clients h in
-    let reports : reports_of (marked s.clients none) ≡ [] = ap reports_of (marked-none s.clients) ∙ none_due s.clients h in
+    let clients : after_reports (with_news none [] s.clients) ≡ s.clients = ap after_reports (no_news s.clients) ∙ none_told s.clients h in
+    let reports : reports_of (with_news none [] s.clients) ≡ [] = ap reports_of (no_news s.clients) ∙ none_due s.clients h in
     λ i. tells s (clients i) (reports i)
 
 -- A machine that stays has nothing changed.
@@ -140,6 +141,8 @@ changed_itself m =
       mixer = not (eq-eqb m.saved.volume m.saved.volume refl i);
       options = not (options_itself m.saved.options i);
       sticker = not (stickers i);
+      subscription = false;
+      message = false;
     }
 
 -- Reports of the output.
@@ -244,7 +247,8 @@ acted_stray : (s : State) (event : Event) (refused : Option ℕ) → is_stray s 
 acted_stray s (events.Connect c) refused h = connect_again c s (watched s.clients c) h
 acted_stray s (events.Request c request) refused h = asked_by_none c refused s request (watched s.clients c) h
 acted_stray s (events.Gone c) refused h =
-    λ i. nothing (with_masks (with_clients s (absent c s.clients h i)) (masks_absent (watched s.clients c) s.masks c h i))
+    λ i. nothing (with_messages (with_masks (with_clients s (absent c s.clients h i)) (masks_absent (watched s.clients c) s.masks c h i))
+    (messages_absent (watched s.clients c) s.messages c h i))
 acted_stray s (events.Fed ticket frames) refused h = ap (happened s) (fed_late s.machine ticket frames h)
 acted_stray s (events.Ended ticket) refused h = ap (happened s) (ended_late s.machine ticket h)
 acted_stray s (events.Broken ticket cause) refused h = ap (happened s) (broken_late s.machine ticket cause h)

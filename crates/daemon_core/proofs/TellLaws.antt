@@ -5,7 +5,7 @@ use Rattle.std.specs.Global.{Vec}
 use Rattle.std.specs.List.{flat_map}
 use Rattle.std.specs.Prelude.{vec_len, vec_capacity}
 use Rattle.std.proofs.lemmas.List.{append-nil}
-use Rattle.command_text.specs.Answer.{ok}
+use Rattle.command_text.specs.Answer.{ok, IsFullFor}
 use Rattle.command_text.specs.AnswerNames.{changed_line}
 use Rattle.idle_masks.specs.Subsystem.{in_printed_order}
 use Rattle.idle_masks.specs.Subsystems.{contains}
@@ -31,6 +31,32 @@ lines_of_listed p (x ∷ xs) = one (p x) (lines_of_listed p xs)
 pub line_if_fits : (b : Bool) (x : Subsystem) → length (line_if b x) ≤ length (changed_line x)
 line_if_fits true x = omega arith
 line_if_fits false x = omega arith
+
+pub lines_fit : (p : Subsystem → Bool) (xs : List Subsystem) →
+    length (flat_map (λ x. line_if (p x) x) xs) ≤ length (flat_map changed_line xs)
+lines_fit p [] = omega arith
+lines_fit p (x ∷ xs) =
+    omega (
+      arith,
+      line_if_fits (p x) x,
+      lines_fit p xs,
+      length-append (line_if (p x) x) (flat_map (λ y. line_if (p y) y) xs),
+      length-append (changed_line x) (flat_map changed_line xs),
+    )
+
+-- behind the lines of all there is room for the last one
+lines_of_all : length (flat_map changed_line in_printed_order) ≡ 181
+lines_of_all = refl
+
+last_line : length ok ≡ 3
+last_line = refl
+
+pub room_for_last : (changed : Subsystems) (before now : Vec ℕ) → before.items ≡ [] → 184 ≤ vec_capacity before →
+    now.items ≡ before.items ++ flat_map (λ x. line_if (contains changed x) x) in_printed_order → vec_capacity before ≤ vec_capacity now →
+    IsFullFor now ok → ⊥
+room_for_last changed before now empty room lines kept full =
+    let told = ap length (lines ∙ ap (λ t. t ++ flat_map (λ x. line_if (contains changed x) x) in_printed_order) empty) in
+    omega (arith, told, lines_fit (contains changed) in_printed_order, lines_of_all, last_line, now.ok.0, room, kept, full)
 
 -- What stands in the text, and what is left to be added, make the lines of all; and there is room for what is left.
 pub record SoTold (changed : Subsystems) (all rest : List Subsystem) (before now : Vec ℕ) : Type 0 where
@@ -80,7 +106,7 @@ pub so_told_ends : (changed : Subsystems) (all rest : List Subsystem) (before no
 so_told_ends changed all [] before now empty far = sym (append-nil now.items) ∙ far.lines
 so_told_ends changed all (x ∷ rest) before now empty far = absurd (omega (arith, empty))
 
--- the lines of all eight
+-- the lines of all ten
 pub all_told : (changed : Subsystems) (text : List ℕ) → text ≡ flat_map (λ x. line_if (contains changed x) x) in_printed_order →
     text ++ ok ≡ told changed
 all_told changed text h = ap (λ t. t ++ ok) (h ∙ sym (lines_of_listed (contains changed) in_printed_order))

@@ -1,46 +1,38 @@
 -- An event makes no op exactly where it changes nothing of what is saved, since a command, the end of a song and a batch do.
-use Rattle.std.proofs.Common.{◌≡◌, ℕ, suc, ◌+◌, ◌↔◌, Bool, true, false, List, [], ◌∷◌, ◌++◌, length, Option, Some, None, cond}
+use Rattle.std.proofs.Common.{◌≡◌, ℕ, suc, ◌+◌, ◌↔◌, Bool, true, false, List, [], ◌∷◌, ◌++◌, Option, Some, None, cond}
 use Rattle.std.proofs.Common.{refl, sym, subst, ◌∙◌, ap}
-use Rattle.std.specs.Prelude.{Result, Ok, Err, nat_le}
+use Rattle.std.specs.Prelude.{Ok}
 use Rattle.std.proofs.lemmas.Bool.{false≢true}
 use Rattle.command_text.specs.declared.tag_mask.TagMask.{TagMask}
 use Rattle.command_text.specs.Answer.{list_ok}
-use Rattle.command_text.specs.Reading.{line_reading}
 use Rattle.command_text.specs.declared.command.Command.{Command}
-use Rattle.command_text.specs.declared.command.NamedCommand.{NamedCommand}
-use Rattle.command_text.specs.declared.name.CommandName.{CommandName}
 use Rattle.command_text.specs.declared.place.Place.{Place}
 use Rattle.command_text.specs.declared.place.Place.TheVariants.{Alone, InList}
-use Rattle.command_text.specs.declared.refusal.CommandRefusal.TheVariants.{RequestTooLarge}
-use Rattle.command_text.specs.declared.refusal.Refusal.{Refusal}
 use Rattle.command_text.specs.declared.request.Request.{Request}
 use Rattle.command_text.specs.declared.request.Request.TheVariants.{Single, List as CommandList, OkList, Noidle}
 use Rattle.idle_masks.specs.Watched.{watched}
 use Rattle.idle_masks.specs.declared.subsystem.Subsystems.{Subsystems}
 use Rattle.idle_masks.specs.declared.watch.Watched.{Watched}
 use Rattle.machine_core.specs.Command.{meaning}
-use Rattle.machine_core.specs.Looks.{looks_of, max_looks}
 use Rattle.machine_core.specs.Happening.{Happening, nothing_happens}
-use Rattle.machine_core.specs.Meaning.{Meaning, Meant}
+use Rattle.machine_core.specs.Meaning.{Meaning}
 use Rattle.player_core.specs.declared.failure.BrokenCause.{BrokenCause}
 use Rattle.machine_core.specs.Reports.{when_broken, when_ended}
 use Rattle.machine_core.specs.Scanning.{ends_scan, finds, is_running, kept_changes, telling, when_found, when_scanned}
-use Rattle.machine_core.specs.Size.{max_request_bytes, within}
 use Rattle.machine_core.specs.State.{MachineState}
 use Rattle.song_db.specs.declared.change.RowChange.{RowChange}
 use Rattle.state_codec.specs.SavedState.{IsSavedState}
-use Rattle.state_codec.specs.Spelling.{ops_bytes}
 use Rattle.state_codec.specs.declared.op.Op.{Op}
-use Rattle.daemon_core.specs.Run.{Did, Goes, Refuses, Ends, ending_of, did_of, unless_it_ends, performed, read_and_performed, attempted}
+use Rattle.daemon_core.specs.Run.{Did, Done, Goes, Refuses, Ends, attempted}
 use Rattle.daemon_core.specs.Run.{Ran, wants_memory, follow, is_refused_at, ran}
-use Rattle.daemon_core.specs.Run.{Spent, spent_behind, unspent}
+use Rattle.daemon_core.specs.Run.{Spent, spent_behind, spent_on}
 use Rattle.daemon_core.specs.Session.{of_ran, runs}
-use Rattle.daemon_core.specs.Seen.{tags_seen}
 use Rattle.daemon_core.specs.State.{State}
-use Rattle.daemon_core.specs.Step.{connects_client, asked, waits_no_more, is_noidle, requested_by, waiting_of, acted, step}
+use Rattle.daemon_core.specs.Step.{begun, connects_client, asked, waits_no_more, is_noidle, requested_by, waiting_of, acted, step}
 use Rattle.daemon_core.specs.Unchanged.{CommandLeaves, CommandsLeave, RequestLeaves, AskedLeaves, LeavesSaved}
 use Rattle.daemon_core.specs.declared.event.Event.{Event}
 use Rattle.daemon_core.specs.declared.event.Event.TheVariants as events
+use Rattle.daemon_core.proofs.DoneLaws.{line_is}
 use Rattle.daemon_core.specs.declared.outcome.Ending.{Ending}
 use Rattle.daemon_core.specs.declared.outcome.Ending.TheVariants.{Answered, Closed, Killed, Waits}
 
@@ -65,7 +57,7 @@ record Tells (Leaves : Type 0) (m : MachineState) (ops : List Op) : Type 0 where
   none : IsSavedState m.saved → Leaves → ops ≡ []
   same : ops ≡ [] → Leaves
 
-abbrev CommandTells : MachineState → Meaning → Type 0
+abbrev CommandTells : MachineState → Done → Type 0
 CommandTells m x = Tells (x.after.saved ≡ m.saved) m x.ops
 
 abbrev DidTells : MachineState → Did → Type 0
@@ -77,45 +69,15 @@ DidTells m (Ends ending) = Unit {0}
 silent : (m : MachineState) → Tells (Unit {0}) m []
 silent m = record { none = λ saved leaves. refl; same = λ empty. tt }
 
-within_tells : (m : MachineState) (name : CommandName) (x : Meaning) (fits : Bool) → CommandTells m x →
-    DidTells m (did_of name (cond fits (Ok x) (Err RequestTooLarge)))
-within_tells m name x true tells = tells
-within_tells m name x false tells = tt
-
-did_tells : (known : MachineTells) (mask : TagMask) (size : ℕ) (m : MachineState) (name : CommandName) (command : Command) (meant : Meant) →
-    meaning mask command m ≡ meant → DidTells m (did_of name (within m.saved.profile size meant))
-did_tells known mask size m name command (Err refusal) is = tt
-did_tells known mask size m name command (Ok x) is =
-    within_tells m name x (nat_le (size + length (ops_bytes m.saved.profile x.ops)) max_request_bytes)
-    (record { none = λ saved leaves. known.none mask command m x saved is leaves; same = λ empty. known.same mask command m x is empty })
-
--- one that would look at too much is refused before it does anything
-weighed_tells : (size : ℕ) (m : MachineState) (name : CommandName) (meant : Meant) (fits : Bool) →
-    DidTells m (did_of name (within m.saved.profile size meant)) → DidTells m (did_of name (within m.saved.profile size (cond fits meant
-    (Err RequestTooLarge))))
-weighed_tells size m name meant true tells = tells
-weighed_tells size m name meant false tells = tt
-
-unless_tells : (m : MachineState) (ending : Option Ending) (did : Did) → DidTells m did → DidTells m (unless_it_ends ending did)
-unless_tells m None did tells = tells
-unless_tells m (Some ending) did tells = tt
-
-performed_tells : (known : MachineTells) (spent : Spent) (named : NamedCommand) (m : MachineState) → DidTells m (performed spent named m)
-unfolding performed
-performed_tells known spent named m =
-    unless_tells m (ending_of named.command) _
-    (weighed_tells spent.size m named.name (meaning spent.tags named.command m) (nat_le (spent.looks + looks_of named.command m) max_looks)
-    (did_tells known spent.tags spent.size m named.name named.command (meaning spent.tags named.command m) refl))
-
-read_tells : (known : MachineTells) (spent : Spent) (m : MachineState) (read : Result NamedCommand Refusal) →
-    DidTells m (read_and_performed spent m read)
-read_tells known spent m (Ok named) = performed_tells known spent named m
-read_tells known spent m (Err refusal) = tt
-
-attempted_tells : (known : MachineTells) (place : Place) (spent : Spent) (line : List ℕ) (m : MachineState) →
-    DidTells m (attempted place spent line m)
-unfolding attempted
-attempted_tells known place spent line m = read_tells known spent m (line_reading m.saved.profile place line)
+attempted_tells : (known : MachineTells) (c : ℕ) (place : Place) (spent : Spent) (line : List ℕ) (m : MachineState) →
+    DidTells m (attempted c place spent line m)
+attempted_tells known c place spent line m =
+    line_is (DidTells m) c place spent line m (λ ending. tt) (λ refusal. tt)
+    (λ command talk is. record { none = λ saved leaves. refl; same = λ empty. refl })
+    (λ command x means fits. record {
+      none = λ saved leaves. known.none spent.tags command m x saved means leaves;
+      same = λ empty. known.same spent.tags command m x means empty;
+    })
 
 -- so does what a request ran
 nothing_in : (a b : List Op) → a ++ b ≡ [] → (a ≡ []) × (b ≡ [])
@@ -127,8 +89,8 @@ follow_tells : (separator : List ℕ) (index : ℕ) (behind : List Op → Spent)
     ((n : Spent) (t : MachineState) → let r = rest n t in Tells (Rest n t) t r.ops) →
     let r = follow separator index behind m rest d in Tells (CommandLeaves behind m Rest d) m r.ops
 follow_tells separator index behind m rest Rest (Goes x) tells later =
-    let r : Ran = rest (behind x.ops) x.after in
-    let l = later (behind x.ops) x.after in
+    let r : Ran = rest (spent_on behind x) x.after in
+    let l = later (spent_on behind x) x.after in
     record {
       none = λ saved leaves.
           ap (λ (ops : List Op). ops ++ r.ops) (tells.none saved leaves.0) ∙ l.none (subst IsSavedState (sym leaves.0) saved) leaves.1;
@@ -145,17 +107,17 @@ here_tells spent m index line r Leaves true tells =
 here_tells spent m index line r Leaves false tells =
     record { none = λ saved leaves. tells.none saved (leaves refl); same = λ empty not. tells.same empty }
 
-ran_tells : (known : MachineTells) (place : Place) (separator : List ℕ) (refused : Option ℕ) (index : ℕ) (spent : Spent)
+ran_tells : (known : MachineTells) (c : ℕ) (place : Place) (separator : List ℕ) (refused : Option ℕ) (index : ℕ) (spent : Spent)
     (lines : List (List ℕ)) (m : MachineState) →
-    let r = ran place separator refused index spent lines m in Tells (CommandsLeave place refused index spent lines m) m r.ops
+    let r = ran c place separator refused index spent lines m in Tells (CommandsLeave c place refused index spent lines m) m r.ops
 unfolding ran CommandsLeave
-ran_tells known place separator refused index spent [] m = silent m
-ran_tells known place separator refused index spent (line ∷ lines) m =
+ran_tells known c place separator refused index spent [] m = silent m
+ran_tells known c place separator refused index spent (line ∷ lines) m =
     here_tells spent m index line _ _ (is_refused_at refused index)
-    (follow_tells separator index (spent_behind place line m spent) m (λ n t. ran place separator refused (suc index) n lines t)
-    (λ n t. CommandsLeave place refused (suc index) n lines t) (attempted place spent line m)
-    (attempted_tells known place spent line m)
-    (λ n t. ran_tells known place separator refused (suc index) n lines t))
+    (follow_tells separator index (spent_behind place line m spent) m (λ n t. ran c place separator refused (suc index) n lines t)
+    (λ n t. CommandsLeave c place refused (suc index) n lines t) (attempted c place spent line m)
+    (attempted_tells known c place spent line m)
+    (λ n t. ran_tells known c place separator refused (suc index) n lines t))
 
 -- so does any event
 of_ran_tells : (c : ℕ) (s : State) (r : Ran) (ending : Ending) (Leaves : Type 0) → Tells Leaves s.machine r.ops →
@@ -170,14 +132,14 @@ runs_tells : (c : ℕ) (s : State) (r : Ran) (Leaves : Type 0) → Tells Leaves 
 runs_tells c s r Leaves tells = of_ran_tells c s r r.ending Leaves tells
 
 asked_tells : (known : MachineTells) (c : ℕ) (refused : Option ℕ) (s : State) (request : Request) →
-    let a = asked c refused s request in Tells (RequestLeaves refused (unspent s.machine (tags_seen s.masks c)) s.machine request)
+    let a = asked c refused s request in Tells (RequestLeaves c refused (begun c s) s.machine request)
     s.machine a.ops
 asked_tells known c refused s (Single line) =
-    runs_tells c s _ _ (ran_tells known Alone [] refused 0 (unspent s.machine (tags_seen s.masks c)) (line ∷ []) s.machine)
+    runs_tells c s _ _ (ran_tells known c Alone [] refused 0 (begun c s) (line ∷ []) s.machine)
 asked_tells known c refused s (CommandList lines) =
-    runs_tells c s _ _ (ran_tells known InList [] refused 0 (unspent s.machine (tags_seen s.masks c)) lines s.machine)
+    runs_tells c s _ _ (ran_tells known c InList [] refused 0 (begun c s) lines s.machine)
 asked_tells known c refused s (OkList lines) =
-    runs_tells c s _ _ (ran_tells known InList list_ok refused 0 (unspent s.machine (tags_seen s.masks c)) lines s.machine)
+    runs_tells c s _ _ (ran_tells known c InList list_ok refused 0 (begun c s) lines s.machine)
 asked_tells known c refused s Noidle = silent s.machine
 
 waiting_tells : (noidle : Bool) (c : ℕ) (s : State) → let a = waits_no_more noidle c s in Tells (Unit {0}) s.machine a.ops
@@ -186,8 +148,7 @@ waiting_tells false c s = silent s.machine
 
 requested_tells : (known : MachineTells) (c : ℕ) (refused : Option ℕ) (s : State) (request : Request)
     (found : Option (Option Subsystems)) →
-    let a = requested_by c refused s request found in Tells (AskedLeaves refused (unspent s.machine
-    (tags_seen s.masks c)) s.machine request found) s.machine a.ops
+    let a = requested_by c refused s request found in Tells (AskedLeaves c refused (begun c s) s.machine request found) s.machine a.ops
 requested_tells known c refused s request None = silent s.machine
 requested_tells known c refused s request (Some None) = asked_tells known c refused s request
 requested_tells known c refused s request (Some (Some mask)) = waiting_tells (is_noidle request) c s

@@ -19,6 +19,7 @@ pub record Does (a : Acted) (after : CoreParts) (handled : Handled) : Type 0 whe
   pub looks : handled.outcome.looks ≡ a.looks
   pub ended : handled.outcome.ended ≡ a.ended
   pub changed : handled.changed ≡ a.changed
+  pub notified : after.talks.notified.items ≡ a.notified
   pub one : vec_len handled.outcome.outputs ≤ 1
   pub ready : IsReadyToTell after
 

@@ -13,12 +13,10 @@ use Rattle.command_text.specs.declared.request.Request.{Request}
 use Rattle.command_text.specs.declared.request.Request.TheVariants.{Single, List as CommandList, OkList, Noidle}
 use Rattle.idle_masks.specs.Watched.{watched}
 use Rattle.idle_masks.specs.declared.subsystem.Subsystems.{Subsystems}
-use Rattle.machine_core.specs.Meaning.{Meaning}
 use Rattle.machine_core.specs.State.{MachineState}
-use Rattle.daemon_core.specs.Run.{Did, Goes, Refuses, Ends, attempted, is_refused_at, Spent, spent_behind, unspent}
-use Rattle.daemon_core.specs.Seen.{tags_seen}
+use Rattle.daemon_core.specs.Run.{Did, Done, Goes, Refuses, Ends, attempted, is_refused_at, Spent, spent_behind, spent_on}
 use Rattle.daemon_core.specs.State.{State}
-use Rattle.daemon_core.specs.Step.{waiting_of}
+use Rattle.daemon_core.specs.Step.{begun, waiting_of}
 use Rattle.daemon_core.specs.declared.event.Event.{Event}
 use Rattle.daemon_core.specs.declared.event.Event.TheVariants as events
 
@@ -36,28 +34,28 @@ reads_kill (Ok named) = is_kill named.command
 reads_kill (Err refusal) = false
 
 -- the command goes well, and what follows it passes
-abbrev pub goes_on : Did → (Meaning → Bool) → Bool
+abbrev pub goes_on : Did → (Done → Bool) → Bool
 goes_on (Goes x) rest = rest x
 goes_on (Refuses refusal) rest = false
 goes_on (Ends ending) rest = false
 
 -- The commands from this index on come to `kill`: those before it go well, and none of them nor `kill` is refused memory.
-unfoldable pub comes_to_kill : Place → Option ℕ → ℕ → Spent → List (List ℕ) → MachineState → Bool
-comes_to_kill place refused index spent [] m = false
-comes_to_kill place refused index spent (line ∷ lines) m =
+unfoldable pub comes_to_kill : ℕ → Place → Option ℕ → ℕ → Spent → List (List ℕ) → MachineState → Bool
+comes_to_kill c place refused index spent [] m = false
+comes_to_kill c place refused index spent (line ∷ lines) m =
     not (is_refused_at refused index) && (reads_kill (line_reading m.saved.profile place line)
-    || goes_on (attempted place spent line m) (λ x.
-    comes_to_kill place refused (suc index) (spent_behind place line m spent x.ops) lines x.after))
+    || goes_on (attempted c place spent line m) (λ x.
+    comes_to_kill c place refused (suc index) (spent_on (spent_behind place line m spent) x) lines x.after))
 
-abbrev pub request_kills : Option ℕ → Spent → MachineState → Request → Bool
-request_kills refused spent m (Single line) = comes_to_kill Alone refused 0 spent (line ∷ []) m
-request_kills refused spent m (CommandList lines) = comes_to_kill InList refused 0 spent lines m
-request_kills refused spent m (OkList lines) = comes_to_kill InList refused 0 spent lines m
-request_kills refused spent m Noidle = false
+abbrev pub request_kills : ℕ → Option ℕ → Spent → MachineState → Request → Bool
+request_kills c refused spent m (Single line) = comes_to_kill c Alone refused 0 spent (line ∷ []) m
+request_kills c refused spent m (CommandList lines) = comes_to_kill c InList refused 0 spent lines m
+request_kills c refused spent m (OkList lines) = comes_to_kill c InList refused 0 spent lines m
+request_kills c refused spent m Noidle = false
 
 -- a client that is connected and doesn't wait asks so
 abbrev pub asks_to_kill : ℕ → Option ℕ → State → Request → Option (Option Subsystems) → Bool
-asks_to_kill c refused s request (Some None) = request_kills refused (unspent s.machine (tags_seen s.masks c)) s.machine request
+asks_to_kill c refused s request (Some None) = request_kills c refused (begun c s) s.machine request
 asks_to_kill c refused s request found = false
 
 abbrev pub ends_daemon : State → Event → Option ℕ → Bool

@@ -19,5 +19,7 @@ pub mod Quiet
 pub mod Stray
 pub mod Leaving
 pub mod Kill
+pub mod Talk
+pub mod Talking
 pub mod Unchanged
 pub mod Running

@@ -3,4 +3,4 @@ use Rattle.daemon_core.specs.State.{State}
 use Rattle.daemon_core.specs.declared.parts.CoreParts.{CoreParts}
 
 abbrev pub state_of : CoreParts → State
-state_of p = record { machine = p.machine; clients = p.watch; masks = p.masks.list.items }
+state_of p = record { machine = p.machine; clients = p.watch; masks = p.masks.list.items; messages = p.talks.messages }

@@ -36,7 +36,7 @@ told_waiting so_far c (Some mask) = report_if c (intersection (pending_of so_far
 
 -- what an event did, before anybody was told
 abbrev pub moment_of : Acted → Moment
-moment_of a = record { connected = a.connected; changed = a.changed; reports = [] }
+moment_of a = record { connected = a.connected; changed = a.changed; notified = a.notified; reports = [] }
 
 -- What the newest event of a history has told, by rising number: each client that waits for a subsystem which is pending for it by that
 -- history.

@@ -1,21 +1,24 @@
 -- What the code of a request does, line by line.
-use Rattle.std.specs.Prelude.{◌≡◌, ℕ, ◌<◌, List, [], ◌++◌, length, Option, Some, None, Result, Ok, Err, IfSome}
+use Rattle.std.specs.Prelude.{◌≡◌, ℕ, ◌+◌, ◌<◌, List, [], ◌++◌, length, Option, Some, None, Result, Ok, Err, IfSome}
 use Rattle.command_text.specs.Answer.{ack}
 use Rattle.command_text.specs.Reading.{name_of_line, want_of_memory}
 use Rattle.command_text.specs.declared.place.Place.{Place}
+use Rattle.command_text.specs.declared.refusal.CommandRefusal.{CommandRefusal}
 use Rattle.command_text.specs.declared.refusal.ReadError.{ReadError}
 use Rattle.command_text.specs.declared.refusal.ReadError.TheVariants as errors
 use Rattle.command_text.specs.declared.tag_mask.TagMask.{TagMask}
 use Rattle.idle_masks.specs.declared.subsystem.Subsystems.{Subsystems}
-use Rattle.machine_core.specs.Changed.{changed}
 use Rattle.machine_core.specs.Looks.{max_looks}
-use Rattle.machine_core.specs.Meaning.{Meaning}
 use Rattle.machine_core.specs.State.{MachineState}
-use Rattle.machine_core.specs.Work.{AddsNothing, AddsOps, AddsText, HasRoom, ack_room}
+use Rattle.machine_core.specs.Work.{AddsNothing, AddsText, HasRoom, ack_room, command_room}
+use Rattle.machine_core.specs.declared.work.Failure.{Failure}
+use Rattle.machine_core.specs.declared.work.Failure.TheVariants as failures
 use Rattle.machine_core.specs.declared.work.Work.{Work}
 use Rattle.profile.specs.declared.profile.Profile.{Profile}
 use Rattle.state_codec.specs.Spelling.{ops_bytes}
-use Rattle.daemon_core.specs.Run.{Did, Goes, Refuses, Ends, Ran, ran, spent_of}
+use Rattle.daemon_core.specs.Run.{Did, Done, Goes, Refuses, Ends, Ran, ran, spent_of}
+use Rattle.daemon_core.specs.Talking.{IsSame}
+use Rattle.daemon_core.specs.declared.talk.Talks.{Talks}
 use Rattle.daemon_core.specs.declared.outcome.Ending.{Ending}
 use Rattle.daemon_core.specs.declared.outcome.Ending.TheVariants.{Answered}
 use Rattle.daemon_core.specs.declared.request.RequestEnd.{RequestEnd}
@@ -28,8 +31,8 @@ stop_of_reading (errors.Refused refusal) = stops.Refused refusal
 stop_of_reading errors.NoMemory = stops.NoMemory
 
 -- what a request did, as it stands behind its last command
-abbrev pub ran_of : MachineState → Work → RequestEnd → Ran
-ran_of m work end = record {
+abbrev pub ran_of : MachineState → Talks → Work → RequestEnd → Ran
+ran_of m talks work end = record {
   after = m;
   text = work.text.items;
   changed = end.changed;
@@ -38,16 +41,57 @@ ran_of m work end = record {
   refused_at = end.refused_at;
   looks = end.looks;
   tags = end.tags;
+  messages = talks.messages;
+  notified = talks.notified.items;
 }
 
--- the command did what it means: its lines, the separator and its ops were added, and there is room for what ends a request
-pub record WentOn (separator : List ℕ) (did : Did) (before after : MachineState) (work done : Work) (set : Subsystems) : Type 0 where
-  pub meaning : Meaning
-  pub means : did ≡ Goes meaning
-  pub stands : after ≡ meaning.after
-  pub text : done.text.items ≡ work.text.items ++ (meaning.text ++ separator)
-  pub ops : AddsOps meaning.ops (length (ops_bytes before.saved.profile meaning.ops)) work done
-  pub changed : set ≡ changed before after
+-- a command that doesn't end its request did what it does, and there is room for what ends a command
+pub record IsPerformed
+    (does : Result Done CommandRefusal) (before after : MachineState) (talks talked : Talks) (work done : Work) (set : Subsystems)
+    : Type 0 where
+  pub what : Done
+  pub is : does ≡ Ok what
+  pub stands : after ≡ what.after
+  pub messages : talked.messages ≡ what.messages
+  pub notified : talked.notified.items ≡ talks.notified.items ++ what.notified
+  pub text : done.text.items ≡ work.text.items ++ what.text
+  pub ops : done.ops.items ≡ work.ops.items ++ what.ops
+  pub size : done.size ≡ work.size + length (ops_bytes before.saved.profile what.ops)
+  pub changed : set ≡ what.changed
+  pub room : HasRoom command_room done
+
+-- it was refused as it must be, or found no memory
+abbrev pub IsRefusalBy : Result Done CommandRefusal → Failure → Type 0
+IsRefusalBy does (failures.Refused refusal) = does ≡ Err refusal
+IsRefusalBy does failures.NoMemory = Unit {0}
+
+-- it failed, and nothing was changed
+pub record IsNotPerformed
+    (does : Result Done CommandRefusal) (before after : MachineState) (talks talked : Talks) (work done : Work) (failure : Failure)
+    : Type 0 where
+  pub stands : after ≡ before
+  pub same : IsSame talks talked
+  pub nothing : AddsNothing work done
+  pub refusal : IsRefusalBy does failure
+
+abbrev pub RunsCommand :
+    Result Done CommandRefusal → MachineState → MachineState → Talks → Talks → Work → Work → Result Subsystems Failure → Type 0
+RunsCommand does before after talks talked work done (Ok set) = IsPerformed does before after talks talked work done set
+RunsCommand does before after talks talked work done (Err failure) = IsNotPerformed does before after talks talked work done failure
+
+-- the command of a line did what it does: its lines, the separator and its ops were added, and there is room for what ends a request
+pub record WentOn
+    (separator : List ℕ) (did : Did) (before after : MachineState) (talks talked : Talks) (work done : Work) (set : Subsystems)
+    : Type 0 where
+  pub what : Done
+  pub is : did ≡ Goes what
+  pub stands : after ≡ what.after
+  pub messages : talked.messages ≡ what.messages
+  pub notified : talked.notified.items ≡ talks.notified.items ++ what.notified
+  pub text : done.text.items ≡ work.text.items ++ (what.text ++ separator)
+  pub ops : done.ops.items ≡ work.ops.items ++ what.ops
+  pub size : done.size ≡ work.size + length (ops_bytes before.saved.profile what.ops)
+  pub changed : set ≡ what.changed
   pub room : HasRoom ack_room done
 
 -- why a command that did this stops its request; or it found no memory
@@ -57,14 +101,16 @@ IsStop did (stops.Refused refusal) = did ≡ Refuses refusal
 IsStop did stops.NoMemory = Unit {0}
 
 -- the command stops its request, and nothing was changed
-pub record Stopped (did : Did) (before after : MachineState) (work done : Work) (stop : Stop) : Type 0 where
+pub record Stopped (did : Did) (before after : MachineState) (talks talked : Talks) (work done : Work) (stop : Stop) : Type 0 where
   pub stands : after ≡ before
+  pub same : IsSame talks talked
   pub nothing : AddsNothing work done
   pub why : IsStop did stop
 
-abbrev pub RunsLine : List ℕ → Did → MachineState → MachineState → Work → Work → Result Subsystems Stop → Type 0
-RunsLine separator did before after work done (Ok set) = WentOn separator did before after work done set
-RunsLine separator did before after work done (Err stop) = Stopped did before after work done stop
+abbrev pub RunsLine :
+    List ℕ → Did → MachineState → MachineState → Talks → Talks → Work → Work → Result Subsystems Stop → Type 0
+RunsLine separator did before after talks talked work done (Ok set) = WentOn separator did before after talks talked work done set
+RunsLine separator did before after talks talked work done (Err stop) = Stopped did before after talks talked work done stop
 
 -- So much was looked at behind a command. Nothing is said where it found no memory.
 abbrev pub CountsLooks : ℕ → ℕ → Result Subsystems Stop → Type 0
@@ -104,17 +150,24 @@ abbrev pub AnswersStop : Profile → Stop → ℕ → List ℕ → Option ℕ �
 AnswersStop profile stop index line None ending work done = AnswersIt stop index ending work done
 AnswersStop profile stop index line (Some place) ending work done = (place ≡ index) × WantsMemory profile index line ending work done
 
+-- what the request does whose end this is, by this client and with these messages before it
+abbrev pub ran_for : ℕ → Place → List ℕ → TagMask → List (List ℕ) → MachineState → Talks → Work → RequestEnd → Ran
+ran_for c place between tags lines before talks work end =
+    ran c place between end.refused_at 0 (spent_of work.size 0 tags talks.messages) lines before
+
 -- the commands were run as the request means them, with memory refused where its end says, at one of them or at none
 pub record RunsLines
-    (place : Place) (between : List ℕ) (tags : TagMask) (lines : List (List ℕ)) (before after : MachineState) (work done : Work)
-    (end : RequestEnd)
+    (c : ℕ) (place : Place) (between : List ℕ) (tags : TagMask) (lines : List (List ℕ)) (before after : MachineState)
+    (talks talked : Talks) (work done : Work) (end : RequestEnd)
     : Type 0 where
-  pub stands : after ≡ (ran place between end.refused_at 0 (spent_of work.size 0 tags) lines before).after
-  pub text : done.text.items ≡ work.text.items ++ (ran place between end.refused_at 0 (spent_of work.size 0 tags) lines before).text
-  pub ops : done.ops.items ≡ work.ops.items ++ (ran place between end.refused_at 0 (spent_of work.size 0 tags) lines before).ops
-  pub changed : end.changed ≡ (ran place between end.refused_at 0 (spent_of work.size 0 tags) lines before).changed
-  pub ending : end.ending ≡ (ran place between end.refused_at 0 (spent_of work.size 0 tags) lines before).ending
-  pub refused_at : end.refused_at ≡ (ran place between end.refused_at 0 (spent_of work.size 0 tags) lines before).refused_at
-  pub looks : end.looks ≡ (ran place between end.refused_at 0 (spent_of work.size 0 tags) lines before).looks
-  pub sees : end.tags ≡ (ran place between end.refused_at 0 (spent_of work.size 0 tags) lines before).tags
+  pub stands : after ≡ (ran_for c place between tags lines before talks work end).after
+  pub text : done.text.items ≡ work.text.items ++ (ran_for c place between tags lines before talks work end).text
+  pub ops : done.ops.items ≡ work.ops.items ++ (ran_for c place between tags lines before talks work end).ops
+  pub changed : end.changed ≡ (ran_for c place between tags lines before talks work end).changed
+  pub ending : end.ending ≡ (ran_for c place between tags lines before talks work end).ending
+  pub refused_at : end.refused_at ≡ (ran_for c place between tags lines before talks work end).refused_at
+  pub looks : end.looks ≡ (ran_for c place between tags lines before talks work end).looks
+  pub sees : end.tags ≡ (ran_for c place between tags lines before talks work end).tags
+  pub messages : talked.messages ≡ (ran_for c place between tags lines before talks work end).messages
+  pub notified : talked.notified.items ≡ talks.notified.items ++ (ran_for c place between tags lines before talks work end).notified
   pub within : IfSome end.refused_at (λ place. place < length lines)

@@ -1,6 +1,7 @@
 -- A request's commands, one after the other.
 use Rattle.std.specs.Prelude.{ℕ, suc, ◌+◌, ◌==◌, List, [], ◌∷◌, ◌++◌, length, Bool, true, false, Option, Some, None, Result, Ok, Err}
 use Rattle.std.specs.Prelude.{if◌then◌else◌}
+use Rattle.client_messages.specs.declared.listener.Listener.{Listener}
 use Rattle.command_text.specs.Answer.{ok, list_ok, ack}
 use Rattle.command_text.specs.Reading.{line_reading, name_of_line, want_of_memory}
 use Rattle.command_text.specs.declared.command.Command.{Command}
@@ -12,6 +13,7 @@ use Rattle.command_text.specs.declared.command.settings.SettingsCommand.{Setting
 use Rattle.command_text.specs.declared.command.settings.SettingsCommand.TheVariants as settings
 use Rattle.command_text.specs.declared.name.CommandName.{CommandName}
 use Rattle.command_text.specs.declared.place.Place.{Place}
+use Rattle.command_text.specs.declared.refusal.CommandRefusal.{CommandRefusal}
 use Rattle.command_text.specs.declared.refusal.Refusal.{Refusal}
 use Rattle.command_text.specs.declared.refusal.Refusal.TheVariants.{OfCommand}
 use Rattle.command_text.specs.declared.tag_mask.TagMask.{TagMask}
@@ -29,12 +31,23 @@ use Rattle.machine_core.specs.State.{MachineState}
 use Rattle.state_codec.specs.Sealed.{checksum_len}
 use Rattle.state_codec.specs.Spelling.{ops_bytes}
 use Rattle.state_codec.specs.declared.op.Op.{Op}
+use Rattle.daemon_core.specs.Talk.{Talk, talk_of}
 use Rattle.daemon_core.specs.declared.outcome.Ending.{Ending}
 use Rattle.daemon_core.specs.declared.outcome.Ending.TheVariants.{Answered, Closed, Killed, Waits}
 
--- what one command did: what it means, or its refusal, or the end of the request
+-- What a command did that went well: its lines, the ops that it made, the machine after it, who has which channels and what each hasn't
+-- read, the subsystems that it changed, and the clients that it notified of a message.
+pub record Done : Type 0 where
+  pub text : List ℕ
+  pub ops : List Op
+  pub after : MachineState
+  pub messages : List Listener
+  pub changed : Subsystems
+  pub notified : List ℕ
+
+-- what one command did: it went well, or was refused, or ended the request
 pub data Did : Type 0 where
-  Goes : (meaning : Meaning) → Did
+  Goes : (done : Done) → Did
   Refuses : (refusal : Refusal) → Did
   Ends : (ending : Ending) → Did
 
@@ -53,7 +66,35 @@ ending_of (commands.Settings command) = settings_ending command
 ending_of (commands.Session command) = session_ending command
 ending_of command = None
 
-abbrev pub did_of : CommandName → Meant → Did
+-- a command of the machine leaves the messages
+abbrev pub done_of : MachineState → List Listener → Meaning → Done
+done_of m messages x =
+    record { text = x.text; ops = x.ops; after = x.after; messages = messages; changed = changed m x.after; notified = [] }
+
+-- a command of messages leaves the machine
+abbrev pub talk_done : MachineState → Talk → Done
+talk_done m talk = record {
+  text = talk.text;
+  ops = [];
+  after = m;
+  messages = talk.messages;
+  changed = talk.changed;
+  notified = talk.notified;
+}
+
+abbrev pub machine_does : MachineState → List Listener → Meant → Result Done CommandRefusal
+machine_does m messages (Ok x) = Ok (done_of m messages x)
+machine_does m messages (Err refusal) = Err refusal
+
+abbrev pub talk_does : MachineState → Result Talk CommandRefusal → Result Done CommandRefusal
+talk_does m (Ok talk) = Ok (talk_done m talk)
+talk_does m (Err refusal) = Err refusal
+
+abbrev pub either_does : MachineState → List Listener → Option (Result Talk CommandRefusal) → Meant → Result Done CommandRefusal
+either_does m messages None meant = machine_does m messages meant
+either_does m messages (Some talked) meant = talk_does m talked
+
+abbrev pub did_of : CommandName → Result Done CommandRefusal → Did
 did_of name (Ok x) = Goes x
 did_of name (Err refusal) = Refuses (OfCommand name refusal)
 
@@ -62,18 +103,19 @@ unless_it_ends None did = did
 unless_it_ends (Some ending) did = Ends ending
 
 -- What the commands of a request hand on to the next one: what they have spent of what it may, the bytes of a record of their ops, and how
--- much they have looked at; and the tags that the client sees.
+-- much they have looked at; the tags that the client sees; and who has which channels and what each hasn't read.
 pub record Spent : Type 0 where
   pub size : ℕ
   pub looks : ℕ
   pub tags : TagMask
+  pub messages : List Listener
 
-abbrev pub spent_of : ℕ → ℕ → TagMask → Spent
-spent_of size looks tags = record { size = size; looks = looks; tags = tags }
+abbrev pub spent_of : ℕ → ℕ → TagMask → List Listener → Spent
+spent_of size looks tags messages = record { size = size; looks = looks; tags = tags; messages = messages }
 
 -- the record of a request begins with what stands behind its ops
-abbrev pub unspent : MachineState → TagMask → Spent
-unspent m tags = spent_of (checksum_len m.saved.profile) 0 tags
+abbrev pub unspent : MachineState → TagMask → List Listener → Spent
+unspent m tags messages = spent_of (checksum_len m.saved.profile) 0 tags messages
 
 abbrev pub database_tags : DatabaseCommand → TagMask → TagMask
 database_tags (database.ChangeMask change) tags = after_change change tags
@@ -88,17 +130,21 @@ tags_behind command tags = tags
 abbrev pub within_both : Spent → Command → MachineState → Meant
 within_both spent command m = within m.saved.profile spent.size (weighed spent.looks (looks_of command m) (meaning spent.tags command m))
 
--- what a command does, where those before it have spent so much
-unfoldable pub performed : Spent → NamedCommand → MachineState → Did
-performed spent named m = unless_it_ends (ending_of named.command) (did_of named.name (within_both spent named.command m))
+-- what a command of this client does that doesn't end its request
+unfoldable pub done_by : ℕ → Spent → Command → MachineState → Result Done CommandRefusal
+done_by c spent command m = either_does m spent.messages (talk_of c spent.messages command) (within_both spent command m)
 
-abbrev pub read_and_performed : Spent → MachineState → Result NamedCommand Refusal → Did
-read_and_performed spent m (Err refusal) = Refuses refusal
-read_and_performed spent m (Ok named) = performed spent named m
+-- what a command of this client does, where those before it have spent so much
+unfoldable pub performed : ℕ → Spent → NamedCommand → MachineState → Did
+performed c spent named m = unless_it_ends (ending_of named.command) (did_of named.name (done_by c spent named.command m))
+
+abbrev pub read_and_performed : ℕ → Spent → MachineState → Result NamedCommand Refusal → Did
+read_and_performed c spent m (Err refusal) = Refuses refusal
+read_and_performed c spent m (Ok named) = performed c spent named m
 
 -- what the line of one command does
-unfoldable pub attempted : Place → Spent → List ℕ → MachineState → Did
-attempted place spent line m = read_and_performed spent m (line_reading m.saved.profile place line)
+unfoldable pub attempted : ℕ → Place → Spent → List ℕ → MachineState → Did
+attempted c place spent line m = read_and_performed c spent m (line_reading m.saved.profile place line)
 
 abbrev pub looks_read : Result NamedCommand Refusal → MachineState → ℕ
 looks_read (Err refusal) m = 0
@@ -120,11 +166,12 @@ tags_of_line place line m tags = tags_read (line_reading m.saved.profile place l
 abbrev pub spent_behind : Place → List ℕ → MachineState → Spent → List Op → Spent
 spent_behind place line m spent ops =
     spent_of (spent.size + length (ops_bytes m.saved.profile ops)) (looked spent.looks (looks_of_line place line m))
-    (tags_of_line place line m spent.tags)
+    (tags_of_line place line m spent.tags) spent.messages
 
 -- What a request did: the machine after it, its answer, the subsystems that one of its commands changed, its ops in order, how
 -- it ended, the place of the command that it reached and that was refused memory, if there was one, how much its commands looked at, that
--- at which it ended too, and the tags that its client sees behind it.
+-- at which it ended too, and the tags that its client sees behind it; who has which channels and what each hasn't read behind it, and the
+-- clients for which `message` is pending.
 pub record Ran : Type 0 where
   pub after : MachineState
   pub text : List ℕ
@@ -134,6 +181,8 @@ pub record Ran : Type 0 where
   pub refused_at : Option ℕ
   pub looks : ℕ
   pub tags : TagMask
+  pub messages : List Listener
+  pub notified : List ℕ
 
 -- it ends here, where so much was spent, with this text
 abbrev pub ends : MachineState → Spent → List ℕ → Ending → Ran
@@ -146,6 +195,8 @@ ends m spent text ending = record {
   refused_at = None;
   looks = spent.looks;
   tags = spent.tags;
+  messages = spent.messages;
+  notified = [];
 }
 
 -- It ends here, since the command of this line, in this place, was refused memory: how much it had looked at by then isn't told, and it
@@ -158,8 +209,8 @@ wants_memory m spent index line =
     }
 
 -- a command that went well, before the rest of the request
-abbrev pub preceded : List ℕ → Subsystems → List Op → Ran → Ran
-preceded text changes ops rest = record {
+abbrev pub preceded : List ℕ → Subsystems → List Op → List ℕ → Ran → Ran
+preceded text changes ops notified rest = record {
   after = rest.after;
   text = text ++ rest.text;
   changed = union changes rest.changed;
@@ -168,6 +219,8 @@ preceded text changes ops rest = record {
   refused_at = rest.refused_at;
   looks = rest.looks;
   tags = rest.tags;
+  messages = rest.messages;
+  notified = notified ++ rest.notified;
 }
 
 -- memory was refused at this command
@@ -180,19 +233,23 @@ abbrev pub separator : Bool → List ℕ
 separator false = []
 separator true = list_ok
 
+-- what is spent behind a command that did this
+abbrev pub spent_on : (List Op → Spent) → Done → Spent
+spent_on behind x = record (behind x.ops) { messages = x.messages }
+
 -- what follows a command that did this: the rest of the request if it went well
 abbrev pub follow : List ℕ → ℕ → (List Op → Spent) → MachineState → (Spent → MachineState → Ran) → Did → Ran
 follow separator index behind m rest (Goes x) =
-    preceded (x.text ++ separator) (changed m x.after) x.ops (rest (behind x.ops) x.after)
+    preceded (x.text ++ separator) x.changed x.ops x.notified (rest (spent_on behind x) x.after)
 follow separator index behind m rest (Refuses refusal) = ends m (behind []) (ack index refusal) Answered
 follow separator index behind m rest (Ends ending) = ends m (behind []) [] ending
 
--- The commands from this index on, where those before have spent so much, and memory is refused at one command or at none.
+-- The commands of this client from this index on, where those before have spent so much, and memory is refused at one command or at none.
 -- Each command that goes well adds its lines and the separator; the first that doesn't ends the request, and what ran before it stays.
-unfoldable pub ran : Place → List ℕ → Option ℕ → ℕ → Spent → List (List ℕ) → MachineState → Ran
-ran place separator refused index spent [] m = ends m spent ok Answered
-ran place separator refused index spent (line ∷ lines) m =
+unfoldable pub ran : ℕ → Place → List ℕ → Option ℕ → ℕ → Spent → List (List ℕ) → MachineState → Ran
+ran c place separator refused index spent [] m = ends m spent ok Answered
+ran c place separator refused index spent (line ∷ lines) m =
     if is_refused_at refused index then wants_memory m spent index line
     else follow separator index (spent_behind place line m spent) m
-    (λ spent after. ran place separator refused (suc index) spent lines after)
-    (attempted place spent line m)
+    (λ spent after. ran c place separator refused (suc index) spent lines after)
+    (attempted c place spent line m)

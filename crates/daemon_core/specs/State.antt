@@ -1,5 +1,6 @@
--- The daemon's state: a machine, of which commands speak, and the clients that are connected.
+-- The daemon's state: a machine, of which commands speak, the clients that are connected, and what they send one another.
 use Rattle.std.specs.Prelude.{List, []}
+use Rattle.client_messages.specs.declared.listener.Listener.{Listener}
 use Rattle.idle_masks.specs.declared.watch.Watched.{Watched}
 use Rattle.machine_core.specs.State.{MachineState, started, told_time}
 use Rattle.machine_core.specs.declared.clock.ClockTime.{ClockTime}
@@ -7,15 +8,16 @@ use Rattle.state_codec.specs.SavedState.{SavedState}
 use Rattle.daemon_core.specs.declared.masks.ClientMask.{ClientMask}
 
 -- The connected clients, by rising number: for each what is pending and, if it waits, for what; and of those that don't see all tags which
--- they see.
+-- they see; and of those that have subscribed to a channel since they came which channels they have and what they haven't read.
 pub record State : Type 0 where
   pub machine : MachineState
   pub clients : List Watched
   pub masks : List ClientMask
+  pub messages : List Listener
 
 -- the state of a daemon that has just begun with what was kept
 abbrev pub start : SavedState → State
-start saved = record { machine = started saved; clients = []; masks = [] }
+start saved = record { machine = started saved; clients = []; masks = []; messages = [] }
 
 abbrev pub with_machine : State → MachineState → State
 with_machine s machine = record s { machine = machine }
@@ -29,3 +31,6 @@ with_masks s masks = record s { masks = masks }
 
 abbrev pub with_clients : State → List Watched → State
 with_clients s clients = record s { clients = clients }
+
+abbrev pub with_messages : State → List Listener → State
+with_messages s messages = record s { messages = messages }

@@ -1,13 +1,14 @@
 -- What an event does.
 use Rattle.std.specs.Prelude.{ℕ, List, [], ◌∷◌, ◌++◌, map, Bool, true, false, Option, Some, None}
 use Rattle.std.specs.List.{flat_map}
+use Rattle.client_messages.specs.Listeners.{left as forgotten}
 use Rattle.command_text.specs.Answer.{ok, list_ok, greeting}
 use Rattle.command_text.specs.AnswerNames.{changed_line}
 use Rattle.command_text.specs.declared.place.Place.TheVariants.{Alone, InList}
 use Rattle.command_text.specs.declared.request.Request.{Request}
 use Rattle.command_text.specs.declared.request.Request.TheVariants.{Single, List as CommandList, OkList, Noidle}
 use Rattle.idle_masks.specs.Subsystems.{listed}
-use Rattle.idle_masks.specs.Watched.{watched, joined, marked, reports_of, after_reports}
+use Rattle.idle_masks.specs.Watched.{watched, joined, reports_of, after_reports}
 use Rattle.idle_masks.specs.declared.ready.Report.{Report}
 use Rattle.idle_masks.specs.declared.subsystem.Subsystem.{Subsystem}
 use Rattle.idle_masks.specs.declared.subsystem.Subsystems.{Subsystems}
@@ -15,11 +16,11 @@ use Rattle.idle_masks.specs.declared.watch.Watched.{Watched}
 use Rattle.machine_core.specs.Reports.{when_fed, when_ended, when_broken}
 use Rattle.machine_core.specs.Scanning.{when_found, when_scanned}
 use Rattle.state_codec.specs.declared.op.Op.{Op}
-use Rattle.daemon_core.specs.Pending.{Moment}
-use Rattle.daemon_core.specs.Run.{ran, unspent}
+use Rattle.daemon_core.specs.Pending.{Moment, with_news}
+use Rattle.daemon_core.specs.Run.{Spent, ran, unspent}
 use Rattle.daemon_core.specs.Session.{Acted, nothing, happened, output, without, waiting, runs}
 use Rattle.daemon_core.specs.Seen.{tags_seen, unmasked}
-use Rattle.daemon_core.specs.State.{State, clocked, with_clients, with_masks}
+use Rattle.daemon_core.specs.State.{State, clocked, with_clients, with_masks, with_messages}
 use Rattle.daemon_core.specs.declared.event.Event.{Event}
 use Rattle.daemon_core.specs.declared.event.Event.TheVariants as events
 use Rattle.daemon_core.specs.declared.outcome.Output.{Output}
@@ -28,17 +29,20 @@ use Rattle.daemon_core.specs.declared.outcome.Output.{Output}
 abbrev pub connects_client : ℕ → State → Option Watched → Acted
 connects_client c s (Some w) = nothing s
 connects_client c s None =
-    record (nothing (with_masks (with_clients s (joined s.clients c)) (unmasked s.masks c))) {
+    record (nothing (with_messages (with_masks (with_clients s (joined s.clients c)) (unmasked s.masks c)) (forgotten s.messages c))) {
       answer = output c greeting ∷ [];
-      connected
-          = Some c;
+      connected = Some c;
     }
+
+-- what the first command of a request of this client begins with
+abbrev pub begun : ℕ → State → Spent
+begun c s = unspent s.machine (tags_seen s.masks c) s.messages
 
 -- A client that does not wait: `noidle` is nothing to it, a line is a request of one command, a list one of several.
 abbrev pub asked : ℕ → Option ℕ → State → Request → Acted
-asked c refused s (Single line) = runs c s (ran Alone [] refused 0 (unspent s.machine (tags_seen s.masks c)) (line ∷ []) s.machine)
-asked c refused s (CommandList lines) = runs c s (ran InList [] refused 0 (unspent s.machine (tags_seen s.masks c)) lines s.machine)
-asked c refused s (OkList lines) = runs c s (ran InList list_ok refused 0 (unspent s.machine (tags_seen s.masks c)) lines s.machine)
+asked c refused s (Single line) = runs c s (ran c Alone [] refused 0 (begun c s) (line ∷ []) s.machine)
+asked c refused s (CommandList lines) = runs c s (ran c InList [] refused 0 (begun c s) lines s.machine)
+asked c refused s (OkList lines) = runs c s (ran c InList list_ok refused 0 (begun c s) lines s.machine)
 asked c refused s Noidle = nothing s
 
 -- A client that waits: `noidle` ends its waiting, and anything else closes it without a byte.
@@ -98,11 +102,11 @@ pub record Stepped : Type 0 where
   pub ended : Bool
   pub moment : Moment
 
--- Each client's pending set grows by what changed; then each client that waits for a pending subsystem is told, and what
--- it was told is pending no more.
+-- What is news to a client is pending for it; then each client that waits for a pending subsystem is told, and what it was told is pending
+-- no more.
 abbrev pub settles : Acted → Stepped
 settles a =
-    let clients = marked a.after.clients a.changed in
+    let clients = with_news a.changed a.notified a.after.clients in
     record {
       after = with_clients a.after (after_reports clients);
       outputs = a.answer ++ map told_to (reports_of clients);
@@ -111,7 +115,7 @@ settles a =
       refused_at = a.refused_at;
       looks = a.looks;
       ended = a.ended;
-      moment = record { connected = a.connected; changed = a.changed; reports = reports_of clients };
+      moment = record { connected = a.connected; changed = a.changed; notified = a.notified; reports = reports_of clients };
     }
 
 unfoldable pub step : State → Event → Option ℕ → Stepped

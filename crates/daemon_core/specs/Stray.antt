@@ -46,5 +46,5 @@ stays s = record {
   refused_at = None;
   looks = 0;
   ended = false;
-  moment = record { connected = None; changed = none; reports = [] };
+  moment = record { connected = None; changed = none; notified = []; reports = [] };
 }

@@ -37,17 +37,19 @@ fn ok(alloc: Global) -> Result<Bytes, NoMemory>
 }
 
 impl CoreParts {
-    ghost use Rattle.idle_masks.specs.Watched.{watched, left, marked, with_waiting, reports_of, after_reports};
+    ghost use Rattle.idle_masks.specs.Watched.{watched, left, with_waiting, reports_of, after_reports};
+    ghost use Rattle.daemon_core.specs.Pending.{with_news};
     ghost use Rattle.std.specs.Prelude.{Some};
     ghost use Rattle.daemon_core.specs.Room.{CanCloseAll, IsReadyToTell};
     ghost use Rattle.daemon_core.specs.Seen.{masks_without};
-    ghost use Rattle.daemon_core.specs.Session.{nothing, without};
+    ghost use Rattle.daemon_core.specs.Session.{messages_without, nothing, without};
     ghost use Rattle.daemon_core.specs.Step.{connects_client, told_to, waits_no_more};
     ghost use Rattle.daemon_core.specs.declared.outcome.Ending.TheVariants.{Waits};
 
     // A client connects: one that was not connected is greeted.
     pub(crate) fn connect(&mut self, alloc: Global, client: ClientId) -> Result<Handled, NoMemory>
-        requires { IsReadyToTell self.old }
+        requires ready { IsReadyToTell self.old }
+        requires fresh { self.old.talks.notified.items ≡ [] }
         ensures ok { IfOk result (Does (connects_client client (state_of self.old) (watched self.old.watch client)) self.new) }
         ensures err { OnErr result (state_of self.new ≡ state_of self.old) }
     {
@@ -63,6 +65,7 @@ impl CoreParts {
             return Err(NoMemory);
         }
         self.masks.forget(client);
+        self.talks.forget(client);
         Ok(handled)
     }
 
@@ -70,11 +73,17 @@ impl CoreParts {
     pub(crate) fn leave(&mut self, client: ClientId)
         ensures watch { self.new.watch ≡ left self.old.watch client }
         ensures masks { self.new.masks.list.items ≡ masks_without (watched self.old.watch client) self.old.masks.list.items client }
+        ensures messages { self.new.talks.messages
+            ≡ messages_without (watched self.old.watch client) self.old.talks.messages client }
+        ensures notified { self.new.talks.notified ≡ self.old.talks.notified }
         ensures machine { self.new.machine ≡ self.old.machine }
         ensures room { self.new.room ≡ self.old.room }
     {
         match self.watch.leave(client) {
-            Ok(()) => self.masks.forget(client),
+            Ok(()) => {
+                self.masks.forget(client);
+                self.talks.forget(client);
+            }
             // It was not connected.
             Err(_) => {}
         }
@@ -82,7 +91,8 @@ impl CoreParts {
 
     // A client's connection has ended.
     pub(crate) fn forget(&mut self, alloc: Global, client: ClientId) -> Handled
-        requires { IsReadyToTell self.old }
+        requires ready { IsReadyToTell self.old }
+        requires fresh { self.old.talks.notified.items ≡ [] }
         ensures { Does (nothing (without client (state_of self.old))) self.new result }
     {
         self.leave(client);
@@ -99,6 +109,7 @@ impl CoreParts {
         requires ready { IsReadyToTell self.old }
         requires closes { CanCloseAll self.old }
         requires known { IsSome (watched self.old.watch client) }
+        requires fresh { self.old.talks.notified.items ≡ [] }
         ensures ok { IfOk result (Does (waits_no_more is_noidle client (state_of self.old)) self.new) }
         ensures err { OnErr result (state_of self.new ≡ state_of self.old) }
     {
@@ -120,6 +131,7 @@ impl CoreParts {
         requires { IsSome (watched self.old.watch client) }
         ensures watch { self.new.watch ≡ with_waiting self.old.watch client (Some mask) }
         ensures masks { self.new.masks ≡ self.old.masks }
+        ensures talks { self.new.talks ≡ self.old.talks }
         ensures machine { self.new.machine ≡ self.old.machine }
         ensures room { self.new.room ≡ self.old.room }
     {
@@ -134,6 +146,8 @@ impl CoreParts {
         requires room { length self.old.watch ≤ vec_capacity closes.old }
         ensures watch { self.new.watch ≡ [] }
         ensures masks { self.new.masks.list.items ≡ [] }
+        ensures messages { self.new.talks.messages ≡ [] }
+        ensures notified { self.new.talks.notified ≡ self.old.talks.notified }
         ensures machine { self.new.machine ≡ self.old.machine }
         ensures room { self.new.room ≡ self.old.room }
         ensures closes { closes.new.items ≡ numbers_of self.old.watch }
@@ -141,6 +155,7 @@ impl CoreParts {
         close_each(self.watch.as_slice(), closes);
         self.watch.clear();
         self.masks.clear();
+        self.talks.forget_all();
     }
 
     // What changed is pending for each client, and those that wait for it are told, behind the answer.
@@ -152,12 +167,15 @@ impl CoreParts {
     ) -> Vec<Output>
         requires ready { IsReadyToTell self.old }
         requires one { vec_len answer ≤ 1 }
-        ensures outputs { result.items ≡ answer.items ++ map told_to (reports_of (marked self.old.watch changed)) }
-        ensures watch { self.new.watch ≡ after_reports (marked self.old.watch changed) }
+        ensures outputs { result.items
+            ≡ answer.items ++ map told_to (reports_of (with_news changed self.old.talks.notified.items self.old.watch)) }
+        ensures watch { self.new.watch ≡ after_reports (with_news changed self.old.talks.notified.items self.old.watch) }
         ensures masks { self.new.masks ≡ self.old.masks }
+        ensures talks { self.new.talks ≡ self.old.talks }
         ensures machine { self.new.machine ≡ self.old.machine }
     {
-        if self.watch.mark(changed) {
+        let notified = self.talks.notified.as_slice();
+        if self.watch.mark(changed, notified) {
             return answer;
         }
         let Some(room) = self.room.give_reports() else {

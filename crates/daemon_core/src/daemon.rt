@@ -7,6 +7,7 @@ ghost use Rattle.daemon_core.specs.State.{start};
 use crate::masks::Masks;
 use crate::parts::CoreParts;
 use crate::room::Room;
+use crate::talk::Talks;
 use crate::watching::Watching;
 use machine_core::Machine;
 use no_memory::NoMemory;
@@ -44,6 +45,7 @@ impl Core {
                 machine: Machine::new(alloc, saved),
                 watch: Watching::new(alloc),
                 masks: Masks::new(alloc),
+                talks: Talks::new(alloc),
                 room: Room::new(alloc),
             },
         }

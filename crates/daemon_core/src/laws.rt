@@ -5,7 +5,7 @@ ghost use Rattle.daemon_core.specs.Kill.{ends_daemon};
 ghost use Rattle.daemon_core.specs.Leaving.{missing, still_there, there, ClosesNoOther};
 ghost use Rattle.daemon_core.specs.Quiet.{is_quiet, NobodyIsDue};
 ghost use Rattle.daemon_core.specs.Replay.{Entry, stepped, replay, moments, reply};
-ghost use Rattle.daemon_core.specs.Running.{has_song};
+ghost use Rattle.daemon_core.specs.Running.{has_song, AreConnected};
 ghost use Rattle.daemon_core.specs.Session.{numbers_of};
 ghost use Rattle.daemon_core.specs.State.{State, clocked};
 ghost use Rattle.daemon_core.specs.Step.{Stepped, step};
@@ -86,6 +86,12 @@ pub fn daemon_ends_at_kill()
     ensures nobody { (s : State) (event : Event) (refused : Option ℕ) → (step s event refused).ended ≡ true
         → (step s event refused).after.clients ≡ [] }
     ensures kill { (s : State) (event : Event) (refused : Option ℕ) → (step s event refused).ended ≡ ends_daemon s event refused }
+{}
+
+/// After any history each client that has channels, or messages that it hasn't read, is connected.
+pub fn listeners_are_connected()
+    ensures { (kept : SavedState) (history : List Entry)
+        → AreConnected (replay kept history).clients (replay kept history).messages }
 {}
 
 /// After any history that began with a stopped player, as each does, a song is current in play and in pause.

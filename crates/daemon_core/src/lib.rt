@@ -13,6 +13,7 @@ pub mod recover;
 mod request;
 mod room;
 mod step;
+mod talk;
 mod tell;
 mod watching;
 

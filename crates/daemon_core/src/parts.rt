@@ -3,6 +3,7 @@ ghost use Rattle.std.specs.Prelude.{◌≡◌};
 
 use crate::masks::Masks;
 use crate::room::Room;
+use crate::talk::Talks;
 use crate::watching::Watching;
 use machine_core::Machine;
 use no_memory::NoMemory;
@@ -13,6 +14,7 @@ pub struct CoreParts {
     pub(crate) machine: Machine,
     pub(crate) watch: Watching,
     pub(crate) masks: Masks,
+    pub(crate) talks: Talks,
     // Memory for what the clients are told, kept from event to event.
     pub(crate) room: Room,
 }
@@ -28,6 +30,7 @@ impl CoreParts {
         ensures machine { self.new.machine ≡ self.old.machine }
         ensures watch { self.new.watch ≡ self.old.watch }
         ensures masks { self.new.masks ≡ self.old.masks }
+        ensures talks { self.new.talks ≡ self.old.talks }
     {
         self.room.take(alloc, self.watch.len())
     }

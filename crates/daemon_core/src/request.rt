@@ -1,8 +1,9 @@
 // The commands of a request, one after the other, and how it ends.
 ghost use Rattle.std.specs.Prelude.{◌≡◌, ◌<◌, ◌^◌, true, length};
 ghost use Rattle.daemon_core.specs.Request.{stop_of_reading, looks_at_end, tags_at_end, CountsLooks, SeesTags, RunsLine, RunsLines};
-ghost use Rattle.daemon_core.specs.Request.{AnswersStop};
-ghost use Rattle.daemon_core.specs.Run.{attempted, ending_of, looks_of_line, performed, separator, spent_of, tags_behind, tags_of_line};
+ghost use Rattle.daemon_core.specs.Request.{AnswersStop, RunsCommand};
+ghost use Rattle.daemon_core.specs.Run.{attempted, done_by, ending_of, looks_of_line, performed, separator, spent_of};
+ghost use Rattle.daemon_core.specs.Run.{tags_behind, tags_of_line};
 ghost use Rattle.daemon_core.specs.Step.{is_noidle};
 ghost use Rattle.machine_core.specs.Looks.{looked, looks_of};
 ghost use Rattle.machine_core.specs.Memory.{takes_memory};
@@ -11,6 +12,7 @@ ghost use Rattle.machine_core.specs.Work.{AddsText, HasRoom, ack_room, command_r
 use crate::handled::Handled;
 use crate::outcome::{Bytes, Ending, Outcome, Output};
 use crate::parts::CoreParts;
+use crate::talk::Talks;
 use command_text::{
     Command, DatabaseCommand, LinesRef, NamedCommand, Place, ReadError, Refusal, Request,
     SessionCommand, SettingsCommand, TagMask, read_words,
@@ -153,11 +155,10 @@ impl CoreParts {
     ghost use Rattle.daemon_core.specs.Outcome.{commands_in};
     ghost use Rattle.daemon_core.specs.Request.{ran_of};
     ghost use Rattle.daemon_core.specs.Session.{of_ran, runs};
-    ghost use Rattle.daemon_core.specs.Step.{requested_by, waiting_of};
+    ghost use Rattle.daemon_core.specs.Step.{begun, requested_by, waiting_of};
     ghost use Rattle.daemon_core.specs.Parts.{state_of};
     ghost use Rattle.daemon_core.specs.Room.{CanCloseAll, IsReadyToTell};
-    ghost use Rattle.daemon_core.specs.Run.{ran, unspent};
-    ghost use Rattle.daemon_core.specs.Seen.{tags_seen};
+    ghost use Rattle.daemon_core.specs.Run.{ran};
 
     // A client's request.
     pub(crate) fn handle_request(
@@ -168,6 +169,7 @@ impl CoreParts {
     ) -> Result<Handled, NoMemory>
         requires ready { IsReadyToTell self.old }
         requires closes { CanCloseAll self.old }
+        requires fresh { self.old.talks.notified.items ≡ [] }
         ensures ok { IfOk result (λ handled. Does (requested_by client handled.outcome.refused_at (state_of self.old) request
             (waiting_of (watched self.old.watch client))) self.new handled) }
         ensures place { IfOk result (λ handled. IfSome handled.outcome.refused_at (λ k. k < commands_in request)) }
@@ -208,9 +210,10 @@ impl CoreParts {
         requires ready { IsReadyToTell self.old }
         requires closes { CanCloseAll self.old }
         requires known { IsSome (watched self.old.watch client) }
+        requires fresh { self.old.talks.notified.items ≡ [] }
         ensures ok { IfOk result (λ handled. Does (runs client (state_of self.old)
-            (ran place (separator separated) handled.outcome.refused_at 0
-            (unspent self.old.machine (tags_seen self.old.masks.list.items client)) lines.entry self.old.machine)) self.new handled) }
+            (ran client place (separator separated) handled.outcome.refused_at 0
+            (begun client (state_of self.old)) lines.entry self.old.machine)) self.new handled) }
         ensures place { IfOk result (λ handled. IfSome handled.outcome.refused_at (λ k. k < length lines.entry)) }
         ensures err { OnErr result (state_of self.new ≡ state_of self.old) }
     {
@@ -224,7 +227,9 @@ impl CoreParts {
         let mut work = Work::new(alloc, profile)?;
         let end = run_lines(
             &mut self.machine,
+            &mut self.talks,
             alloc,
+            client,
             place,
             separated,
             tags,
@@ -249,7 +254,7 @@ impl CoreParts {
         requires empty { outputs.items ≡ [] }
         requires one { 0 < vec_capacity outputs }
         requires mask { vec_len self.old.masks.list < vec_capacity self.old.masks.list }
-        ensures { Does (of_ran client (state_of self.old) (ran_of self.old.machine work end) end.ending) self.new result }
+        ensures { Does (of_ran client (state_of self.old) (ran_of self.old.machine self.old.talks work end) end.ending) self.new result }
     {
         let RequestEnd {
             ending,
@@ -321,7 +326,9 @@ impl CoreParts {
 // The commands of these lines, until one stops the request. A request has fewer than 2^32 commands.
 fn run_lines(
     machine: &mut Machine,
+    talks: &mut Talks,
     alloc: Global,
+    client: ClientId,
     place: Place,
     separated: bool,
     tags: TagMask,
@@ -330,7 +337,8 @@ fn run_lines(
 ) -> RequestEnd
     requires room { HasRoom ack_room work.old }
     requires count { length lines < 2 ^ 32 }
-    ensures { RunsLines place (separator separated) tags lines.entry machine.old machine.new work.old work.new result }
+    ensures { RunsLines client place (separator separated) tags lines.entry machine.old machine.new talks.old talks.new work.old work.new
+        result }
 {
     let mut changed = Subsystems::none();
     let mut looks = Looks::new();
@@ -340,7 +348,7 @@ fn run_lines(
     while let Some((line, after)) = rest.split_first() {
         let before = tags;
         match run_line(
-            machine, alloc, place, separated, line, work, &mut looks, &mut tags,
+            machine, talks, alloc, client, place, separated, line, work, &mut looks, &mut tags,
         ) {
             Ok(set) => changed = changed.union(set),
             Err(stop) => {
@@ -373,7 +381,9 @@ fn run_lines(
 // One command of a request, from its line.
 fn run_line(
     machine: &mut Machine,
+    talks: &mut Talks,
     alloc: Global,
+    client: ClientId,
     place: Place,
     separated: bool,
     line: &[u8],
@@ -382,8 +392,9 @@ fn run_line(
     tags: &mut TagMask,
 ) -> Result<Subsystems, Stop>
     requires { HasRoom ack_room work.old }
-    ensures runs { RunsLine (separator separated) (attempted place (spent_of work.old.size looks.old tags.old) line.now machine.old)
-        machine.old machine.new work.old work.new result }
+    ensures runs { RunsLine (separator separated)
+        (attempted client place (spent_of work.old.size looks.old tags.old talks.old.messages) line.now machine.old)
+        machine.old machine.new talks.old talks.new work.old work.new result }
     ensures tags { SeesTags (tags_of_line place line.now machine.old tags.old) tags.new result }
     ensures looks { CountsLooks (looked looks.old (looks_of_line place line.now machine.old)) looks.new result }
 {
@@ -399,7 +410,9 @@ fn run_line(
         Ok(command) => {
             let before = *tags;
             *tags = tags_behind(&command.command, before);
-            run_command(machine, alloc, separated, before, command, work, looks)
+            run_command(
+                machine, talks, alloc, client, separated, before, command, work, looks,
+            )
         }
         Err(error) => Err(stop_of_reading(error)),
     }
@@ -408,7 +421,9 @@ fn run_line(
 // One command of a request. Memory is refused to one that takes some alone.
 fn run_command(
     machine: &mut Machine,
+    talks: &mut Talks,
     alloc: Global,
+    client: ClientId,
     separated: bool,
     tags: TagMask,
     command: NamedCommand<'_>,
@@ -416,8 +431,9 @@ fn run_command(
     looks: &mut Looks,
 ) -> Result<Subsystems, Stop>
     requires { HasRoom command_room work.old }
-    ensures ran { RunsLine (separator separated) (performed (spent_of work.old.size looks.old tags) command.entry machine.old)
-        machine.old machine.new work.old work.new result }
+    ensures ran { RunsLine (separator separated)
+        (performed client (spent_of work.old.size looks.old tags talks.old.messages) command.entry machine.old)
+        machine.old machine.new talks.old talks.new work.old work.new result }
     ensures looks { looks.new ≡ looked looks.old (looks_of command.entry.command machine.old) }
     ensures memory { result ≡ Err Stop.NoMemory → takes_memory command.entry.command machine.old ≡ true }
 {
@@ -429,13 +445,38 @@ fn run_command(
         }
         None => {}
     }
-    match machine.perform(alloc, tags, command, work, looks) {
+    match perform(machine, talks, alloc, client, tags, command, work, looks) {
         Ok(changed) => {
             separate(separated, work);
             Ok(changed)
         }
         Err(Failure::Refused(refusal)) => { Err(Stop::Refused(Refusal::OfCommand(name, refusal))) }
         Err(Failure::NoMemory) => Err(Stop::NoMemory),
+    }
+}
+
+// A command that doesn't end its request: the daemon performs those of messages, the machine any other.
+#[tactic(auto, unfolding(crate::specs::Run::done_by))]
+fn perform(
+    machine: &mut Machine,
+    talks: &mut Talks,
+    alloc: Global,
+    client: ClientId,
+    tags: TagMask,
+    command: Command<'_>,
+    work: &mut Work,
+    looks: &mut Looks,
+) -> Result<Subsystems, Failure>
+    requires { HasRoom command_room work.old }
+    ensures ran { RunsCommand
+        (done_by client (spent_of work.old.size looks.old tags talks.old.messages) command.entry machine.old)
+        machine.old machine.new talks.old talks.new work.old work.new result }
+    ensures looks { looks.new ≡ looked looks.old (looks_of command.entry machine.old) }
+    ensures memory { result ≡ Err Failure.NoMemory → takes_memory command.entry machine.old ≡ true }
+{
+    match command {
+        Command::Messages(command) => talks.perform(alloc, client, command, work),
+        command => machine.perform(alloc, tags, command, work, looks),
     }
 }
 

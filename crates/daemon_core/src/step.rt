@@ -15,7 +15,7 @@ use no_memory::NoMemory;
 use std::alloc::Global;
 
 impl CoreParts {
-    ghost use Rattle.std.specs.Prelude.{◌<◌, IfSome};
+    ghost use Rattle.std.specs.Prelude.{◌<◌, [], IfSome};
     ghost use Rattle.daemon_core.specs.Handled.{Does};
     ghost use Rattle.daemon_core.specs.Outcome.{command_count};
     ghost use Rattle.daemon_core.specs.Parts.{state_of};
@@ -27,6 +27,7 @@ impl CoreParts {
     fn handle(&mut self, alloc: Global, event: Event) -> Result<Handled, NoMemory>
         requires ready { IsReadyToTell self.old }
         requires closes { CanCloseAll self.old }
+        requires fresh { self.old.talks.notified.items ≡ [] }
         ensures ok { IfOk result (λ handled. Does (acted (state_of self.old) event handled.outcome.refused_at) self.new handled) }
         ensures place { IfOk result (λ handled. IfSome handled.outcome.refused_at (λ k. k < command_count event)) }
         ensures reported { IfOk result (λ handled. IsReported event self.old.machine) }
@@ -80,6 +81,7 @@ impl Core {
     {
         laws::ops_rebuild_the_state();
         self.parts.take_room(alloc)?;
+        self.parts.talks.begin();
         let Handled {
             mut outcome,
             changed,

@@ -3,9 +3,10 @@
 ghost use Rattle.std.specs.Prelude.{◌≡◌, ◌≤◌, ◌↔◌, [], length, IsSome, IsOk, OnOk, OnErr, Some, None};
 ghost use Rattle.std.specs.List.{list_all};
 ghost use Rattle.idle_masks.specs.Subsystems.{is_empty};
-ghost use Rattle.idle_masks.specs.Watched.{watched, joined, left, marked, with_waiting, due, reports_of, after_reports};
+ghost use Rattle.idle_masks.specs.Watched.{watched, joined, left, with_waiting, due, reports_of, after_reports};
+ghost use Rattle.daemon_core.specs.Pending.{with_news};
 
-use idle_masks::{ClientId, ReadyRoom, Reports, Subsystems, Watch, WatchError, Watched};
+use idle_masks::{ClientId, ReadyRoom, Reports, Subsystem, Subsystems, Watch, WatchError, Watched};
 use std::alloc::Global;
 use std::marker::Model;
 
@@ -106,16 +107,18 @@ impl Watching {
         self.watch.cancel(client)
     }
 
-    // Makes the subsystems pending for every client; whether none of them is due to be told anything.
-    pub(crate) fn mark(&mut self, changed: Subsystems) -> bool
-        ensures marked { self.new ≡ marked self.old changed }
-        ensures value { result ≡ list_all (λ w. is_empty (due w)) (marked self.old changed) }
+    // Makes the subsystems pending for every client, and `message` for these; whether none of them is due to be told anything.
+    pub(crate) fn mark(&mut self, changed: Subsystems, notified: &[ClientId]) -> bool
+        ensures marked { self.new ≡ with_news changed notified.now self.old }
+        ensures value { result ≡ list_all (λ w. is_empty (due w)) (with_news changed notified.now self.old) }
     {
-        if self.is_quiet && changed.is_empty() {
+        if self.is_quiet && changed.is_empty() && notified.is_empty() {
             return true;
         }
         self.is_quiet = false;
         self.watch.mark(changed);
+        self.watch
+            .mark_some(notified, Subsystems::only(Subsystem::Message));
         self.is_quiet = is_none_due(self.watch.as_slice());
         self.is_quiet
     }

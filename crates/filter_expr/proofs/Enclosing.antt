@@ -4,21 +4,24 @@ use Rattle.std.proofs.Common.{Some, None, refl, sym, ap, ◌∙◌, subst, appen
 use Rattle.std.proofs.lemmas.List.{append-nil}
 use Rattle.std.specs.Prelude.{codes}
 use Rattle.profile.specs.declared.profile.Profile.{Profile}
+use Rattle.profile.specs.declared.profile.Profile.TheVariants.{Named, Wide}
 use Rattle.filter_expr.specs.declared.name.Key.{Key}
 use Rattle.filter_expr.specs.declared.name.Key.TheVariants as keys
 use Rattle.filter_expr.specs.declared.operator.Operator.{Operator}
-use Rattle.filter_expr.specs.Grammar.{AreBlanks, SpellsBase, SpellsSince, SpellsTest, SpellsNegation, SpellsGroup, SpellsInside, Spells}
+use Rattle.filter_expr.specs.Grammar.{AreBlanks, SpellsBase, SpellsSince, SpellsFormat, SpellsTest, SpellsWord, SpellsNegation, SpellsGroup, SpellsInside, Spells}
+use Rattle.filter_expr.specs.declared.subject.AudioFormat.{AudioFormat}
+use Rattle.filter_expr.specs.Formats.{format_in}
+use Rattle.filter_expr.specs.Grammar.{IsSign, IsFormatSign}
 use Rattle.filter_expr.specs.Names.{key_named}
-use Rattle.filter_expr.specs.Parts.{Fault, ◌>>=◌, opening, closing, exclamation, begins_so, without_blanks, byte_at, between_gaps, key_at}
+use Rattle.filter_expr.specs.Parts.{Fault, ◌>>=◌, opening, closing, exclamation, equals_sign, tilde, begins_so, without_blanks, byte_at, between_gaps, key_at}
 use Rattle.filter_expr.specs.Parts.{value_at}
 use Rattle.filter_expr.specs.Parts.Fault.{Bad, Deep}
-use Rattle.filter_expr.specs.Reading.{Reader, is_only_equal, operator_at, since_of, test_tree, test_of, closed, test_at, negation_at, others_at, group_at}
-use Rattle.filter_expr.specs.Reading.{inside_at}
-use Rattle.filter_expr.specs.Reading.{expression_at, is_nil, alone, most_open, whole}
+use Rattle.filter_expr.specs.Reading.{Reader, operator_at, is_good_value, tested, stars_at, format_of, since_of, test_tree, test_of, closed, test_at, negation_at, others_at, group_at, inside_at}
+use Rattle.filter_expr.specs.Reading.{expression_at, is_nil, alone, trimmed, most_open, whole}
 use Rattle.filter_expr.specs.Times.{time_in}
 use Rattle.filter_expr.specs.Tree.{Tree}
-use Rattle.filter_expr.specs.Tree.Tree.{Base, Since, Not, And}
-use Rattle.filter_expr.proofs.Comparisons.{regroup, spaced, operator_found}
+use Rattle.filter_expr.specs.Tree.Tree.{Base, Since, Format, Not, And}
+use Rattle.filter_expr.proofs.Comparisons.{regroup, signed, spaced, two_bytes, operator_found}
 use Rattle.filter_expr.proofs.Keys.{key_found_so}
 use Rattle.filter_expr.proofs.Pieces.{bind_ok, guard_ok, ok_same, byte_found, blanks_found, value_found}
 
@@ -52,13 +55,46 @@ wider these those text x f found = (found.0, found.1, f x.0 found.0 found.2, fou
 
 -- a test, `base V` or `modified-since V`
 abbrev pub SpellsSimple : Profile → Tree → List ℕ → Type 0
-SpellsSimple profile tree text = SpellsBase profile tree text ⊎ (SpellsSince profile tree text ⊎ SpellsTest profile tree text)
+SpellsSimple profile tree text =
+    SpellsBase profile tree text ⊎ (SpellsSince profile tree text ⊎ (SpellsFormat profile tree text ⊎ SpellsTest profile tree text))
 
 -- a time that was read
 since_found : (read : Option ℕ) (left : ℕ) (rest : List ℕ) (x : Tree × List ℕ) → since_of read left rest ≡ Ok x
     → (time : ℕ) × (read ≡ Some time) × ((Since time, rest) ≡ x)
 since_found None left rest x h = absurd (cc)
 since_found (Some time) left rest x h = (time, refl, ok_same (Since time, rest) x h)
+
+-- a format that was read
+format_found : (read : Option AudioFormat) (left : ℕ) (rest : List ℕ) (x : Tree × List ℕ) → format_of read left rest ≡ Ok x
+    → (format : AudioFormat) × (read ≡ Some format) × ((Format format, rest) ≡ x)
+format_found None left rest x h = absurd (cc)
+format_found (Some format) left rest x h = (format, refl, ok_same (Format format, rest) x h)
+
+-- how it is compared
+stars_found : (text : List ℕ) (x : Bool × List ℕ) → stars_at (without_blanks text) ≡ Ok x
+    → (middle : List ℕ) × IsFormatSign x.0 middle × (text ≡ middle ++ without_blanks x.1)
+unfolding stars_at
+stars_found text x h =
+    let first = bind_ok {A = List ℕ} {B = Bool × List ℕ} (byte_at equals_sign (without_blanks text))
+    (λ behind. cond (begins_so tilde behind) (byte_at tilde behind >>= λ rest. Ok (true, rest))
+    (byte_at equals_sign behind >>= λ rest. Ok (false, rest))) x h in
+    by_cases first.0 first.1 (begins_so tilde first.0) first.2
+  where
+    of_sign : (stars : Bool) (b : ℕ) (first : List ℕ) → ((middle : List ℕ) → IsSign (equals_sign ∷ b ∷ []) middle → IsFormatSign stars middle)
+        → byte_at equals_sign (without_blanks text) ≡ Ok first → (byte_at b first >>= λ rest. Ok (stars, rest)) ≡ Ok x
+        → (middle : List ℕ) × IsFormatSign x.0 middle × (text ≡ middle ++ without_blanks x.1)
+    of_sign stars b first is e k =
+        let read = bind_ok {A = List ℕ} {B = Bool × List ℕ} (byte_at b first) (λ rest. Ok (stars, rest)) x k in
+        let sign = signed (equals_sign ∷ b ∷ []) text read.0 (two_bytes equals_sign b (without_blanks text) first read.0 e read.1) in
+        let middle = sign.0 ++ ((equals_sign ∷ b ∷ []) ++ sign.1) in
+        subst (λ (y : Bool × List ℕ). (m : List ℕ) × IsFormatSign y.0 m × (text ≡ m ++ without_blanks y.1)) (ok_same (stars, read.0) x read.2)
+        (middle, is middle (sign.0, sign.1, sign.2, sign.3, refl), sign.4)
+
+    by_cases : (first : List ℕ) → byte_at equals_sign (without_blanks text) ≡ Ok first → (t : Bool)
+        → cond t (byte_at tilde first >>= λ rest. Ok (true, rest)) (byte_at equals_sign first >>= λ rest. Ok (false, rest)) ≡ Ok x
+        → (middle : List ℕ) × IsFormatSign x.0 middle × (text ≡ middle ++ without_blanks x.1)
+    by_cases first e true k = of_sign true tilde first (λ middle s. s) e k
+    by_cases first e false k = of_sign false equals_sign first (λ middle s. s) e k
 
 glued : (name behind middle inner quoted rest : List ℕ) → behind ≡ middle ++ inner → inner ≡ quoted ++ rest
     → name ++ behind ≡ (name ++ (middle ++ quoted)) ++ rest
@@ -112,30 +148,64 @@ named_found profile name keys.Since behind x named h =
       })),
       glued name behind blanks.0 bare value.0 read.0.1 blanks.2 value.2,
     )
+named_found profile name keys.Format behind x named h =
+    let bare = without_blanks behind in
+    let stars = bind_ok {A = Bool × List ℕ} {B = Tree × List ℕ} (stars_at bare)
+    (λ stars. value_at (without_blanks stars.1) >>= λ value. format_of (format_in stars.0 value.0) (length (without_blanks stars.1)) value.1)
+    x h in
+    let inner = without_blanks stars.0.1 in
+    let read = bind_ok {A = List ℕ × List ℕ} {B = Tree × List ℕ} (value_at inner)
+    (λ value. format_of (format_in stars.0.0 value.0) (length inner) value.1) x stars.2 in
+    let sign = stars_found behind stars.0 stars.1 in
+    let value = value_found inner read.0.0 read.0.1 read.1 in
+    let format = format_found (format_in stars.0.0 read.0.0) (length inner) read.0.1 x read.2 in
+    subst (FoundBy (SpellsSimple profile) (name ++ behind)) format.2 (
+      name ++ (sign.0 ++ value.0),
+      inr (inr (inl (record {
+        name = name;
+        stars = stars.0.0;
+        middle = sign.0;
+        quoted = value.0;
+        value = read.0.0;
+        format = format.0;
+        named = named;
+        compared = sign.1;
+        spelled = value.1;
+        read = format.1;
+        parts = refl;
+        says = refl;
+      }))),
+      glued name behind sign.0 inner value.0 read.0.1 sign.2 value.2,
+    )
 named_found profile name (keys.Of subject) behind x named h =
-    let first = bind_ok {A = Operator × List ℕ} {B = Tree × List ℕ} (operator_at (is_only_equal subject profile) behind)
-    (λ operator. value_at (without_blanks operator.1) >>= λ value. Ok (test_tree subject operator.0 value.0, value.1)) x h in
-    let read = bind_ok {A = List ℕ × List ℕ} {B = Tree × List ℕ} (value_at (without_blanks first.0.1))
-    (λ value. Ok (test_tree subject first.0.0 value.0, value.1)) x first.2 in
-    let operator = operator_found (is_only_equal subject profile) behind first.0 first.1 in
-    let value = value_found (without_blanks first.0.1) read.0.0 read.0.1 read.1 in
-    subst (FoundBy (SpellsSimple profile) (name ++ behind)) (ok_same (test_tree subject first.0.0 read.0.0, read.0.1) x read.2) (
+    let first = bind_ok {A = Operator × List ℕ} {B = Tree × List ℕ} (operator_at profile subject behind)
+    (λ operator. value_at (without_blanks operator.1)
+    >>= λ value. tested subject operator.0 value.0 (length (without_blanks operator.1)) >>= λ tree. Ok (tree, value.1)) x h in
+    let inner = without_blanks first.0.1 in
+    let read = bind_ok {A = List ℕ × List ℕ} {B = Tree × List ℕ} (value_at inner)
+    (λ value. tested subject first.0.0 value.0 (length inner) >>= λ tree. Ok (tree, value.1)) x first.2 in
+    let test = bind_ok {A = Tree} {B = Tree × List ℕ} (tested subject first.0.0 read.0.0 (length inner)) (λ tree. Ok (tree, read.0.1)) x read.2 in
+    let good = guard_ok (is_good_value first.0.0 read.0.0) (test_tree subject first.0.0 read.0.0) test.0 (Bad (length inner)) test.1 in
+    let operator = operator_found profile subject behind first.0 first.1 in
+    let value = value_found inner read.0.0 read.0.1 read.1 in
+    subst (FoundBy (SpellsSimple profile) (name ++ behind))
+    (ap (λ (t : Tree). (t, read.0.1)) good.1 ∙ ok_same (test.0, read.0.1) x test.2) (
       name ++ (operator.0 ++ value.0),
-      inr (inr (record {
+      inr (inr (inr (record {
         name = name;
         subject = subject;
         middle = operator.0;
         operator = first.0.0;
         quoted = value.0;
         value = read.0.0;
-        named =
-            named;
+        named = named;
         compared = operator.1;
         spelled = value.1;
+        good = good.0;
         parts = refl;
         says = refl;
-      })),
-      glued name behind operator.0 (without_blanks first.0.1) value.0 read.0.1 operator.2 value.2,
+      }))),
+      glued name behind operator.0 inner value.0 read.0.1 operator.2 value.2,
     )
 
 test_found : (profile : Profile) (text : List ℕ) (x : Tree × List ℕ) → test_at profile text ≡ Ok x
@@ -263,11 +333,21 @@ nothing_behind : (rest : List ℕ) → is_nil rest ≡ true → rest ≡ []
 nothing_behind [] h = refl
 nothing_behind (b ∷ rest) h = absurd (cc)
 
-pub whole_found : (profile : Profile) (word : List ℕ) (tree : Tree) → whole profile word ≡ Ok tree → Spells profile most_open tree word
+pub whole_found : (profile : Profile) (word : List ℕ) (tree : Tree) → whole profile word ≡ Ok tree → SpellsWord profile tree word
 unfolding whole
 whole_found profile word tree h =
-    let read = bind_ok {A = Tree × List ℕ} {B = Tree} (expression_at profile most_open word) alone tree h in
-    let end = guard_ok (is_nil read.0.1) read.0.0 tree (Bad (length read.0.1)) read.2 in
+    let read = bind_ok {A = Tree × List ℕ} {B = Tree} (expression_at profile most_open word) (λ x. alone (x.0, trimmed profile x.1)) tree h in
+    let end = guard_ok (is_nil (trimmed profile read.0.1)) read.0.0 tree (Bad (length (trimmed profile read.0.1))) read.2 in
     let found = expression_found profile most_open word read.0 read.1 in
-    let same : word ≡ found.0 = found.2 ∙ ap (λ (s : List ℕ). found.0 ++ s) (nothing_behind read.0.1 end.0) ∙ append-nil found.0 in
-    subst (λ (t : Tree). Spells profile most_open t word) end.1 (subst (Spells profile most_open read.0.0) (sym same) found.1)
+    subst (λ (t : Tree). SpellsWord profile t word) end.1
+    (by_profile profile read.0.0 found.0 read.0.1 found.1 found.2 (nothing_behind (trimmed profile read.0.1) end.0))
+  where
+    by_profile : (profile : Profile) (tree : Tree) (front rest : List ℕ) → Spells profile most_open tree front → word ≡ front ++ rest
+        → trimmed profile rest ≡ [] → SpellsWord profile tree word
+    by_profile Named tree front rest spelled e none =
+        let same : word ≡ front = e ∙ ap (λ (s : List ℕ). front ++ s) none ∙ append-nil front in
+        subst (Spells Named most_open tree) (sym same) spelled
+    by_profile Wide tree front rest spelled e none =
+        let blanks = blanks_found rest in
+        let behind : rest ≡ blanks.0 = blanks.2 ∙ ap (λ (s : List ℕ). blanks.0 ++ s) none ∙ append-nil blanks.0 in
+        (front, blanks.0, spelled, blanks.1, e ∙ ap (λ (s : List ℕ). front ++ s) behind)

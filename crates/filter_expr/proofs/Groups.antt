@@ -4,9 +4,12 @@ use Rattle.std.proofs.Common.{sym, ap, ◌∙◌, arith, length-append}
 use Rattle.std.proofs.lemmas.List.{append-nil}
 use Rattle.std.specs.Prelude.{codes}
 use Rattle.profile.specs.declared.profile.Profile.{Profile}
-use Rattle.filter_expr.specs.Grammar.{AreBlanks, IsGap, SpellsGroup, SpellsInside, Spells, IsReadAsSpelled, SpellsOnce}
-use Rattle.filter_expr.specs.Parts.{Fault, ◌>>=◌, opening, closing, begins_so, without_blanks, between_gaps}
-use Rattle.filter_expr.specs.Reading.{Reader, others_at, inside_at, expression_at, alone, most_open, whole}
+use Rattle.profile.specs.declared.profile.Profile.TheVariants.{Named, Wide}
+use Rattle.std.proofs.lemmas.Bool.{and_parts}
+use Rattle.std.specs.List.{list_all}
+use Rattle.filter_expr.specs.Grammar.{AreBlanks, IsGap, SpellsGroup, SpellsInside, Spells, SpellsWord, IsReadAsSpelled, SpellsOnce}
+use Rattle.filter_expr.specs.Parts.{Fault, ◌>>=◌, is_blank, opening, closing, begins_so, without_blanks, between_gaps}
+use Rattle.filter_expr.specs.Reading.{Reader, others_at, inside_at, expression_at, alone, trimmed, most_open, whole}
 use Rattle.filter_expr.specs.Tree.{Tree}
 use Rattle.filter_expr.specs.Tree.Tree.{And}
 use Rattle.filter_expr.proofs.Comparisons.{spaced_again}
@@ -142,11 +145,20 @@ expression_again profile (suc room) tree front rest h =
     ∙ ap (inside_at profile (expression_at profile room)) (blanks_again h.before (h.inside ++ tail) h.blanks_before ∙ again.0) ∙ again.1
     ∙ closed_again tree h.after rest h.blanks_after
 
-pub whole_again : (profile : Profile) (word : List ℕ) (tree : Tree) → Spells profile most_open tree word → whole profile word ≡ Ok tree
+blanks_gone : (after : List ℕ) → AreBlanks after → without_blanks after ≡ []
+unfolding without_blanks
+blanks_gone [] h = refl
+blanks_gone (b ∷ after) h = let both = and_parts (is_blank b) (list_all is_blank after) h in rw both.0 (blanks_gone after both.1)
+
+pub whole_again : (profile : Profile) (word : List ℕ) (tree : Tree) → SpellsWord profile tree word → whole profile word ≡ Ok tree
 unfolding whole
-whole_again profile word tree h =
-    ap (λ (s : List ℕ). expression_at profile most_open s >>= alone) (sym (append-nil word))
-    ∙ ap (λ (r : Result (Tree × List ℕ) Fault). r >>= alone) (expression_again profile most_open tree word [] h)
+whole_again Named word tree h =
+    ap (λ (s : List ℕ). expression_at Named most_open s >>= λ x. alone (x.0, trimmed Named x.1)) (sym (append-nil word))
+    ∙ ap (λ (r : Result (Tree × List ℕ) Fault). r >>= λ x. alone (x.0, trimmed Named x.1)) (expression_again Named most_open tree word [] h)
+whole_again Wide word tree h =
+    ap (λ (s : List ℕ). expression_at Wide most_open s >>= λ x. alone (x.0, trimmed Wide x.1)) h.4
+    ∙ ap (λ (r : Result (Tree × List ℕ) Fault). r >>= λ x. alone (x.0, trimmed Wide x.1)) (expression_again Wide most_open tree h.0 h.1 h.2)
+    ∙ ap (λ (s : List ℕ). alone (tree, s)) (blanks_gone h.1 h.3)
 
 pub read_as_spelled : IsReadAsSpelled
 read_as_spelled profile word tree = (whole_found profile word tree, whole_again profile word tree)

@@ -11,12 +11,12 @@ use Rattle.song_files.specs.Tag.{Row as TagRow, table, same_letters, tag_named a
 use Rattle.song_files.specs.declared.tag.Tag.{Tag}
 use Rattle.profile.specs.declared.profile.Profile.{Profile}
 use Rattle.filter_expr.specs.declared.name.Key.{Key}
+use Rattle.filter_expr.specs.Names.{known, is_file_name, other_key, key_of, key_named}
 use Rattle.profile.specs.declared.profile.Profile.TheVariants.{Named, Wide}
-use Rattle.filter_expr.specs.Names.{known, knows_times, is_file_name, key_of, key_named}
 use Rattle.filter_expr.specs.Parts.{is_blank, ends_name, name_in, behind_name, key_at, key_from, key_found}
 use Rattle.std.proofs.lemmas.Slice.Eq.{bytes_eq-Decides}
 
-lower_ends : (b : ℕ) → ends_name (to_ascii_lowercase b) ≡ ends_name b
+pub lower_ends : (b : ℕ) → ends_name (to_ascii_lowercase b) ≡ ends_name b
 lower_ends b = elim (cases_lt b 91) [
   | inl small ↦ agree_below_at (λ n. ends_name (to_ascii_lowercase n)) ends_name 91 b refl small
   | inr large ↦
@@ -100,12 +100,24 @@ key_name profile name key h = by_cases (any_tag_named name) refl h
               rw n at t in other) (record { whole = refl; some = omega arith })
         ]
 
-    none_key : (name : List ℕ) → str_eq_ignore_ascii_case name (codes "any") ≡ false → is_file_name profile name ≡ false
-        → str_eq_ignore_ascii_case name (codes "base") ≡ false
-        → str_eq_ignore_ascii_case name (codes "modified-since") ≡ false → (times : Bool) → knows_times profile ≡ times
-        → key_of profile None name ≡ None
-    none_key name n1 n2 n3 n4 true e = rw (n1, n2, n3, n4, e) refl
-    none_key name n1 n2 n3 n4 false e = rw (n1, n2, n3, n4, e) refl
+    none_wide : (name : List ℕ) → str_eq_ignore_ascii_case name (codes "modified-since") ≡ false
+        → str_eq_ignore_ascii_case name (codes "audioformat") ≡ false → other_key Wide name ≡ None
+    none_wide name n1 n2 = rw (n1, n2) refl
+
+    named_other : (profile : Profile) (name : List ℕ) (key : Key) → other_key profile name ≡ Some key → IsName name
+    named_other Named name key h = absurd (cc)
+    named_other Wide name key h =
+        elim (cases_Bool (str_eq_ignore_ascii_case name (codes "modified-since"))) [
+          | inl t ↦ same_letters_name name (codes "modified-since") t (record { whole = refl; some = omega arith })
+          | inr n1 ↦ elim (cases_Bool (str_eq_ignore_ascii_case name (codes "audioformat"))) [
+            | inl t ↦ same_letters_name name (codes "audioformat") t (record { whole = refl; some = omega arith })
+            | inr n2 ↦ absurd (let none = none_wide name n1 n2 in cc)
+          ]
+        ]
+
+    behind_three : (name : List ℕ) → str_eq_ignore_ascii_case name (codes "any") ≡ false → is_file_name profile name ≡ false
+        → str_eq_ignore_ascii_case name (codes "base") ≡ false → key_of profile None name ≡ other_key profile name
+    behind_three name n1 n2 n3 = rw (n1, n2, n3) refl
 
     other_name : (name : List ℕ) (key : Key) → key_of profile None name ≡ Some key → IsName name
     other_name name key h =
@@ -115,10 +127,7 @@ key_name profile name key h = by_cases (any_tag_named name) refl h
             | inl t ↦ file_name profile name t
             | inr n8 ↦ elim (cases_Bool (str_eq_ignore_ascii_case name (codes "base"))) [
               | inl t ↦ same_letters_name name (codes "base") t (record { whole = refl; some = omega arith })
-              | inr n9 ↦ elim (cases_Bool (str_eq_ignore_ascii_case name (codes "modified-since"))) [
-                | inl t ↦ same_letters_name name (codes "modified-since") t (record { whole = refl; some = omega arith })
-                | inr n10 ↦ absurd (let none = none_key name n7 n8 n9 n10 (knows_times profile) refl in cc)
-              ]
+              | inr n9 ↦ named_other profile name key (sym (behind_three name n7 n8 n9) ∙ h)
             ]
           ]
         ]

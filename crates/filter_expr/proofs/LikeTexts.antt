@@ -10,10 +10,11 @@ use Rattle.song_files.specs.declared.tag.Tag.{Tag}
 use Rattle.filter_expr.specs.declared.case.Case.{Case}
 use Rattle.filter_expr.specs.declared.subject.Comparison.{Comparison}
 use Rattle.filter_expr.specs.declared.subject.Subject.{Subject}
-use Rattle.filter_expr.specs.declared.subject.Subject.TheVariants.{OfTag, Any, File}
+use Rattle.filter_expr.specs.declared.subject.Subject.TheVariants.{OfTag, Any, AnyText, File}
 use Rattle.filter_expr.specs.Fallback.{told_tag}
-use Rattle.filter_expr.specs.Looked.{is_like_of, told_subject}
-use Rattle.filter_expr.specs.Meaning.{Song, is_like, is_absent, passes, texts_for}
+use Rattle.regular_expr.specs.Patterns.{is_found}
+use Rattle.filter_expr.specs.Looked.{is_of, is_found_of, is_like_of, told_subject}
+use Rattle.filter_expr.specs.Meaning.{Song, is_like, is_absent, passes, passes_like, texts_for}
 
 any_suc : (p : TagText → Bool) (tags : List TagText) (at : ℕ) (t : TagText) → slice_get tags at ≡ Some t
     → list_any p (drop at tags) ≡ (p t || list_any p (drop (suc at) tags))
@@ -63,18 +64,35 @@ of_all : (q : List ℕ → Bool) (tags : List TagText)
 of_all q [] = refl
 of_all q (t ∷ tags) = ap (λ (b : Bool). q t.text || b) (of_all q tags)
 
+looked_by : (q : List ℕ → Bool) (subject : Subject) (song : Song) → (subject ≡ File → ⊥)
+    → list_any q (texts_for subject song) ≡ list_any (λ (t : TagText). is_of (told_subject song.tags subject) t.tag && q t.text) song.tags
+looked_by q (OfTag tag) song other = of_tag q (told_tag song.tags tag) song.tags
+looked_by q Any song other = of_all q song.tags
+looked_by q AnyText song other = of_all q song.tags
+looked_by q File song other = absurd (other refl)
+
 pub looked_at : (case : Case) (subject : Subject) (comparison : Comparison) (value : List ℕ) (song : Song) → (subject ≡ File → ⊥)
     → list_any (is_like case comparison value) (texts_for subject song)
     ≡ list_any (is_like_of case (told_subject song.tags subject) comparison value) song.tags
-looked_at case (OfTag tag) comparison value song other = of_tag (is_like case comparison value) (told_tag song.tags tag) song.tags
-looked_at case Any comparison value song other = of_all (is_like case comparison value) song.tags
-looked_at case File comparison value song other = absurd (other refl)
+looked_at case subject comparison value song other = looked_by (is_like case comparison value) subject song other
+
+-- the same by a pattern
+pub matched_at : (fold : Bool) (subject : Subject) (source : List ℕ) (song : Song) → (subject ≡ File → ⊥)
+    → list_any (is_found fold source) (texts_for subject song)
+    ≡ list_any (is_found_of fold (told_subject song.tags subject) source) song.tags
+matched_at fold subject source song other = looked_by (is_found fold source) subject song other
 
 -- a value that isn't empty
-pub passes_some : (case : Case) (comparison : Comparison) (value : List ℕ) (texts : List (List ℕ)) → 0 < length value
-    → passes case comparison value texts ≡ list_any (is_like case comparison value) texts
-passes_some case comparison [] texts some = absurd (omega arith)
-passes_some case comparison (v ∷ value) texts some = refl
+pub passes_some : (case : Case) (subject : Subject) (comparison : Comparison) (value : List ℕ) (texts : List (List ℕ)) → 0 < length value
+    → passes case subject comparison value texts ≡ list_any (is_like case comparison value) texts
+passes_some case subject comparison [] texts some = absurd (omega arith)
+passes_some case subject comparison (v ∷ value) texts some = refl
+
+-- a pattern whose text isn't empty
+pub matches_some : (fold : Bool) (subject : Subject) (source : List ℕ) (texts : List (List ℕ)) → 0 < length source
+    → passes_like fold subject source texts ≡ list_any (is_found fold source) texts
+matches_some fold subject [] texts some = absurd (omega arith)
+matches_some fold subject (v ∷ source) texts some = refl
 
 -- where there is no text of a tag, or of any
 pub tag_absent : (tags : List TagText) (tag : Tag) → is_none (first_text tags tag) ≡ is_absent (texts_of tags tag)

@@ -1,7 +1,8 @@
 -- A part stands in a text where a search finds it.
 use Rattle.std.proofs.Common.{◌≡◌, ℕ, ◌+◌, ◌≤◌, true, nat_eq, List, [], ◌∷◌, ◌++◌, length, take, drop, Option, Some, None, refl, sym, ap}
 use Rattle.std.proofs.Common.{◌∙◌, arith, inl, inr, length-append}
-use Rattle.std.proofs.lemmas.Bool.{false≢true, and_parts, and_from, or_cases, or_left, or_right, eqb-true, eq-eqb, false_from_ne_true}
+use Rattle.std.proofs.lemmas.Bool.{false≢true, cases_Bool, and_parts, and_from, or_cases, or_left, or_right, eqb-true, eqb-false, eq-eqb, ne_eqb, false_from_ne_true}
+use Rattle.std.specs.List.{starts_with}
 use Rattle.std.proofs.lemmas.List.Prefix.{at_from_reads, at_reads}
 use Rattle.std.proofs.lemmas.List.{take-append-drop}
 use Rattle.std.specs.Option.{is_some}
@@ -27,6 +28,17 @@ begins_so (p ∷ part) (t ∷ text) h =
 begins_front : (part rest : List ℕ) → begins_with part (part ++ rest) ≡ true
 begins_front [] rest = refl
 begins_front (p ∷ part) rest = and_from (nat_eq p p) (begins_with part (part ++ rest)) (eq-eqb p p refl) (begins_front part rest)
+
+same_eq : (a b : ℕ) → nat_eq a b ≡ nat_eq b a
+same_eq a b = elim (cases_Bool (nat_eq a b)) [
+  | inl t ↦ t ∙ sym (eq-eqb b a (sym (eqb-true a b t)))
+  | inr f ↦ f ∙ sym (ne_eqb b a (λ e. eqb-false a b f (sym e)))
+]
+
+pub starts_begins : (part text : List ℕ) → starts_with nat_eq text part ≡ begins_with part text
+starts_begins [] text = refl
+starts_begins (p ∷ part) [] = refl
+starts_begins (p ∷ part) (t ∷ text) = rw (same_eq p t, starts_begins part text) refl
 
 amid_so : (part text : List ℕ) → occurs_in part text ≡ true → IsAmid part text
 amid_so part [] h = let at = begins_so part [] h in ([], at.0, at.1)

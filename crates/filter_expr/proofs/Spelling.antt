@@ -1,18 +1,20 @@
 -- What is spelled is read, whatever stands behind.
-use Rattle.std.proofs.Common.{◌≡◌, inl, inr, ℕ, false, List, ◌∷◌, ◌++◌, length, Result, Ok, Option, Some, refl, sym, ap, ◌∙◌, subst, append_assoc}
+use Rattle.std.proofs.Common.{◌≡◌, inl, inr, ℕ, Bool, true, false, List, ◌∷◌, ◌++◌, length, Result, Ok, Option, Some, refl, sym, ap, ◌∙◌, subst, append_assoc}
 use Rattle.profile.specs.declared.profile.Profile.{Profile}
 use Rattle.filter_expr.specs.declared.name.Key.{Key}
 use Rattle.filter_expr.specs.declared.name.Key.TheVariants as keys
 use Rattle.filter_expr.specs.declared.operator.Operator.{Operator}
 use Rattle.filter_expr.specs.declared.subject.Subject.{Subject}
-use Rattle.filter_expr.specs.Grammar.{AreBlanks, IsOperator, SpellsValue, SpellsNegation}
+use Rattle.filter_expr.specs.Grammar.{AreBlanks, IsFormatSign, IsOperator, SpellsValue, SpellsNegation}
+use Rattle.filter_expr.specs.Formats.{format_in}
+use Rattle.filter_expr.specs.declared.subject.AudioFormat.{AudioFormat}
 use Rattle.filter_expr.specs.Names.{key_named}
 use Rattle.filter_expr.specs.Parts.{Fault, ◌>>=◌, opening, closing, exclamation, ends_name, begins_so, without_blanks, byte_at, value_at}
-use Rattle.filter_expr.specs.Reading.{Reader, is_only_equal, since_of, test_tree, test_of, closed, test_at, negation_at, inside_at}
+use Rattle.filter_expr.specs.Reading.{Reader, is_good_value, tested, format_of, since_of, test_tree, test_of, closed, test_at, negation_at, inside_at}
 use Rattle.filter_expr.specs.Times.{time_in}
 use Rattle.filter_expr.specs.Tree.{Tree}
-use Rattle.filter_expr.specs.Tree.Tree.{Base, Since, Not}
-use Rattle.filter_expr.proofs.Comparisons.{regroup, operator_again, operator_ends}
+use Rattle.filter_expr.specs.Tree.Tree.{Base, Since, Format, Not}
+use Rattle.filter_expr.proofs.Comparisons.{regroup, sign_ends, stars_again, operator_again, operator_ends}
 use Rattle.filter_expr.proofs.Enclosing.{SpellsSimple}
 use Rattle.filter_expr.proofs.Expressions.{inside_negation, inside_test}
 use Rattle.filter_expr.proofs.Keys.{EndsName, ends_blanks, name_starts, no_blank, no_byte, key_again}
@@ -47,15 +49,35 @@ since_again profile gap quoted value tail time blanks spelled is =
     ∙ ap (λ (t : Option ℕ). since_of t (length (without_blanks text)) tail) is
 
 compared_again : (profile : Profile) (subject : Subject) (operator : Operator) (middle quoted value tail : List ℕ)
-    → IsOperator (is_only_equal subject profile) operator middle
-    → SpellsValue quoted value → test_of profile (keys.Of subject) (middle ++ (quoted ++ tail)) ≡ Ok (test_tree subject operator value, tail)
+    → IsOperator profile subject operator middle → is_good_value operator value ≡ true → SpellsValue quoted value
+    → test_of profile (keys.Of subject) (middle ++ (quoted ++ tail)) ≡ Ok (test_tree subject operator value, tail)
 unfolding test_of
-compared_again profile subject operator middle quoted value tail compared spelled =
-    let sign = operator_again (is_only_equal subject profile) operator middle (quoted ++ tail) compared in
+compared_again profile subject operator middle quoted value tail compared good spelled =
+    let sign = operator_again profile subject operator middle (quoted ++ tail) compared in
+    let left = length (without_blanks sign.0) in
     let read = ap value_at (sign.2 ∙ value_bare quoted value tail spelled) ∙ value_again quoted value tail spelled in
-    ap (λ (r : Result (Operator × List ℕ) Fault). r >>= λ o. value_at (without_blanks o.1) >>= λ v. Ok (test_tree subject o.0 v.0, v.1))
-    sign.1
-    ∙ ap (λ (r : Result (List ℕ × List ℕ) Fault). r >>= λ v. Ok (test_tree subject operator v.0, v.1)) read
+    ap (λ (r : Result (Operator × List ℕ) Fault). r >>= λ o. value_at (without_blanks o.1)
+    >>= λ v. tested subject o.0 v.0 (length (without_blanks o.1)) >>= λ tree. Ok (tree, v.1)) sign.1
+    ∙ ap (λ (r : Result (List ℕ × List ℕ) Fault). r >>= λ v. tested subject operator v.0 left >>= λ tree. Ok (tree, v.1)) read
+    ∙ rw good refl
+
+format_again : (profile : Profile) (stars : Bool) (middle quoted value tail : List ℕ) (format : AudioFormat) → IsFormatSign stars middle
+    → SpellsValue quoted value → format_in stars value ≡ Some format
+    → test_of profile keys.Format (middle ++ (quoted ++ tail)) ≡ Ok (Format format, tail)
+unfolding test_of
+format_again profile stars middle quoted value tail format compared spelled is =
+    let sign = stars_again stars middle (quoted ++ tail) compared in
+    let left = length (without_blanks sign.0) in
+    let read = ap value_at (sign.2 ∙ value_bare quoted value tail spelled) ∙ value_again quoted value tail spelled in
+    ap (λ (r : Result (Bool × List ℕ) Fault). r >>= λ o. value_at (without_blanks o.1)
+    >>= λ v. format_of (format_in o.0 v.0) (length (without_blanks o.1)) v.1) sign.1
+    ∙ ap (λ (r : Result (List ℕ × List ℕ) Fault). r >>= λ v. format_of (format_in stars v.0) left v.1) read
+    ∙ ap (λ (f : Option AudioFormat). format_of f left tail) is
+
+-- a name ends in front of how a format is compared
+format_ends : (stars : Bool) (middle tail : List ℕ) → IsFormatSign stars middle → EndsName (middle ++ tail)
+format_ends true middle tail h = sign_ends 61 126 middle tail refl h
+format_ends false middle tail h = sign_ends 61 61 middle tail refl h
 
 named_again : (profile : Profile) (name behind : List ℕ) (key : Key) (x : Tree × List ℕ) → key_named profile name ≡ Some key → EndsName behind
     → test_of profile key behind ≡ Ok x → test_at profile (name ++ behind) ≡ closed x
@@ -78,9 +100,15 @@ simple_again profile tree front tail (inr (inl h)) =
     ap (λ (s : List ℕ). test_at profile (s ++ tail)) h.parts ∙ ap (test_at profile) (regroup h.name h.gap h.quoted tail)
     ∙ named_again profile h.name (h.gap ++ (h.quoted ++ tail)) keys.Since (Since h.time, tail) h.named ends read
     ∙ ap (λ (t : Tree). closed (t, tail)) (sym h.says)
-simple_again profile tree front tail (inr (inr h)) =
-    let read = compared_again profile h.subject h.operator h.middle h.quoted h.value tail h.compared h.spelled in
-    let ends = operator_ends (is_only_equal h.subject profile) h.operator h.middle (h.quoted ++ tail) h.compared in
+simple_again profile tree front tail (inr (inr (inl h))) =
+    let read = format_again profile h.stars h.middle h.quoted h.value tail h.format h.compared h.spelled h.read in
+    let ends = format_ends h.stars h.middle (h.quoted ++ tail) h.compared in
+    ap (λ (s : List ℕ). test_at profile (s ++ tail)) h.parts ∙ ap (test_at profile) (regroup h.name h.middle h.quoted tail)
+    ∙ named_again profile h.name (h.middle ++ (h.quoted ++ tail)) keys.Format (Format h.format, tail) h.named ends read
+    ∙ ap (λ (t : Tree). closed (t, tail)) (sym h.says)
+simple_again profile tree front tail (inr (inr (inr h))) =
+    let read = compared_again profile h.subject h.operator h.middle h.quoted h.value tail h.compared h.good h.spelled in
+    let ends = operator_ends profile h.subject h.operator h.middle (h.quoted ++ tail) h.compared in
     ap (λ (s : List ℕ). test_at profile (s ++ tail)) h.parts ∙ ap (test_at profile) (regroup h.name h.middle h.quoted tail)
     ∙ named_again profile h.name (h.middle ++ (h.quoted ++ tail)) (keys.Of h.subject) (test_tree h.subject h.operator h.value, tail) h.named ends
     read ∙ ap (λ (t : Tree). closed (t, tail)) (sym h.says)
@@ -96,7 +124,9 @@ simple_starts : (profile : Profile) (tree : Tree) (front : List ℕ) → SpellsS
 simple_starts profile tree front (inl h) = starts_longer h.name front (h.gap ++ h.quoted) h.parts (name_starts profile h.name keys.Base h.named)
 simple_starts profile tree front (inr (inl h)) = starts_longer h.name front (h.gap ++ h.quoted) h.parts
     (name_starts profile h.name keys.Since h.named)
-simple_starts profile tree front (inr (inr h)) = starts_longer h.name front (h.middle ++ h.quoted) h.parts
+simple_starts profile tree front (inr (inr (inl h))) = starts_longer h.name front (h.middle ++ h.quoted) h.parts
+    (name_starts profile h.name keys.Format h.named)
+simple_starts profile tree front (inr (inr (inr h))) = starts_longer h.name front (h.middle ++ h.quoted) h.parts
     (name_starts profile h.name (keys.Of h.subject) h.named)
 
 -- it stands behind an opening parenthesis and no blank, and is read up to what stands behind it

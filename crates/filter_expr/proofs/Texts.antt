@@ -13,7 +13,7 @@ use Rattle.std.proofs.lemmas.Bool.{eq-eqb, ne_eqb, not-false}
 use Rattle.filter_expr.specs.declared.parts.Stop.{Stop}
 use Rattle.filter_expr.specs.declared.parts.Stop.TheVariants as stops
 use Rattle.filter_expr.specs.Gives.{Gives, Stops}
-use Rattle.filter_expr.specs.Parts.{Fault, ◌>>=◌, is_blank, ends_name, backslash, without_blanks, byte_at, word_at, name_in, behind_name}
+use Rattle.filter_expr.specs.Parts.{Fault, ◌>>=◌, is_blank, ends_name, backslash, without_blanks, byte_at, word_at, letter_at, letters_at, name_in, behind_name}
 use Rattle.filter_expr.specs.Parts.{with_front, quoted}
 use Rattle.filter_expr.specs.Parts.Fault.{Bad}
 
@@ -67,6 +67,15 @@ word_more word rest i lt = ap (λ (w : List ℕ). word_at w rest) (drop_at word 
 pub word_end : (rest : List ℕ) → word_at [] rest ≡ Ok rest
 unfolding word_at
 word_end rest = refl
+
+pub letters_more : (word rest : List ℕ) (i : ℕ) → i < length word
+    → letters_at (drop i word) rest ≡ letter_at (get_or word i 0) rest >>= λ behind. letters_at (drop (i + 1) word) behind
+unfolding letters_at
+letters_more word rest i lt = ap (λ (w : List ℕ). letters_at w rest) (drop_at word i lt)
+
+pub letters_end : (rest : List ℕ) → letters_at [] rest ≡ Ok rest
+unfolding letters_at
+letters_end rest = refl
 
 take_more : (s : List ℕ) (i : ℕ) → i < length s → take (i + 1) s ≡ take i s ++ get_or s i 0 ∷ []
 take_more s i h = rw (add-one, take-suc s i 0) refl

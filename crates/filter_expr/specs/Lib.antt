@@ -2,6 +2,7 @@ pub mod AsciiSong
 pub mod Calendar
 pub mod Fallback
 pub mod Folding
+pub mod Formats
 pub mod Gives
 pub mod Grammar
 pub mod Names

@@ -1,5 +1,6 @@
 -- The parts of an expression's text, each with what stands behind it, or the first fault from the left.
 use Rattle.std.specs.Prelude.{ℕ, Bool, true, false, ◌==◌, ◌||◌, List, [], ◌∷◌, length, Result, Ok, Err, Option, Some, None, if◌then◌else◌}
+use Rattle.std.specs.Char.{to_ascii_lowercase}
 use Rattle.std.specs.Str.{is_utf8}
 use Rattle.profile.specs.declared.profile.Profile.{Profile}
 use Rattle.filter_expr.specs.declared.name.Key.{Key}
@@ -28,6 +29,9 @@ exclamation = 33
 
 abbrev pub equals_sign : ℕ
 equals_sign = 61
+
+abbrev pub tilde : ℕ
+tilde = 126
 
 abbrev pub backslash : ℕ
 backslash = 92
@@ -63,6 +67,18 @@ word_at [] text = Ok text
 word_at (b ∷ word) text = do
   rest ← byte_at b text
   word_at word rest
+
+-- this lowercase letter, in any case
+unfoldable pub letter_at : ℕ → List ℕ → Result (List ℕ) Fault
+letter_at letter [] = Err (Bad 0)
+letter_at letter (b ∷ text) = if to_ascii_lowercase b == letter then Ok text else Err (Bad (length (b ∷ text)))
+
+-- these lowercase letters
+unfoldable pub letters_at : List ℕ → List ℕ → Result (List ℕ) Fault
+letters_at [] text = Ok text
+letters_at (b ∷ word) text = do
+  rest ← letter_at b text
+  letters_at word rest
 
 -- one blank at least
 unfoldable pub gap_at : List ℕ → Result (List ℕ) Fault

@@ -1,5 +1,5 @@
 -- The filter that the words of a command spell, or the first refusal from the left.
-use Rattle.std.specs.Prelude.{◌≡◌, ℕ, ◌+◌, ◌-◌, List, [], ◌∷◌, length, drop, Result, Ok, Err, Option, Some, None, if◌then◌else◌}
+use Rattle.std.specs.Prelude.{◌≡◌, ℕ, zero, suc, ◌+◌, ◌-◌, List, [], ◌∷◌, length, drop, Result, Ok, Err, Option, Some, None, if◌then◌else◌}
 use Rattle.std.specs.Str.{is_utf8}
 use Rattle.profile.specs.declared.profile.Profile.{Profile}
 use Rattle.profile.specs.declared.profile.Profile.TheVariants.{Named, Wide}
@@ -55,11 +55,12 @@ abbrev pub paired : Profile → Comparison
 paired Named = Pair
 paired Wide = WidePair
 
--- what a value says, whose word has this number
+-- what a value says, whose word has this number; a format isn't said so
 abbrev pub pair_tree : Profile → ℕ → Key → List ℕ → Result Tree Refusal
 pair_tree profile number keys.Base value = Ok (Base value)
 pair_tree profile number (keys.Of subject) value = Ok (Test subject (paired profile) value)
 pair_tree profile number keys.Since value = since_pair number (time_in value)
+pair_tree profile number keys.Format value = Err (BadFilter number 0)
 
 abbrev pub keyed : Option Key → List ℕ → Result Key Refusal
 keyed None name = Err (UnknownTag name)
@@ -91,11 +92,37 @@ more_pairs profile number tree (name ∷ value ∷ words) =
 unfoldable pub pairs_of : Profile → List (List ℕ) → Result Tree Refusal
 pairs_of profile words = pair_at profile 0 words >>= λ pair. more_pairs profile 2 pair (drop 2 words)
 
--- A word that begins with a parenthesis is an expression, and stands alone; others are pairs, which hold together.
+-- of the named subset: a word that begins with a parenthesis is an expression, and stands alone; others are pairs, which hold together
+unfoldable pub named_filter_of : List (List ℕ) → Result Tree Refusal
+named_filter_of [] = Err (BadFilter 0 0)
+named_filter_of (word ∷ words) =
+    if begins_so opening word then (read_in_word 0 word (whole Named word) >>= alone words) else pairs_of Named (word ∷ words)
+
+-- of the wide profile: a word that begins with a parenthesis is an expression, another one begins a pair; the word has this number
+abbrev pub part_of : ℕ → List (List ℕ) → Result Tree Refusal
+part_of number [] = Err (BadFilter number 0)
+part_of number (word ∷ words) =
+    if begins_so opening word then read_in_word number word (whole Wide word) else pair_at Wide number (word ∷ words)
+
+-- how many words it takes
+abbrev pub part_length : List (List ℕ) → ℕ
+part_length [] = 0
+part_length (word ∷ words) = if begins_so opening word then 1 else 2
+
+-- what holds beside the parts behind it, the first of which has this number; a list has no more of them than words
+unfoldable pub more_parts : ℕ → ℕ → Tree → List (List ℕ) → Result Tree Refusal
+more_parts zero number tree words = Ok tree
+more_parts (suc most) number tree [] = Ok tree
+more_parts (suc most) number tree (word ∷ words) =
+    part_of number (word ∷ words)
+    >>= λ part. more_parts most (number + part_length (word ∷ words)) (And tree part) (drop (part_length (word ∷ words)) (word ∷ words))
+
+unfoldable pub wide_filter_of : List (List ℕ) → Result Tree Refusal
+wide_filter_of words = part_of 0 words >>= λ part. more_parts (length words) (part_length words) part (drop (part_length words) words)
+
 unfoldable pub filter_of : Profile → List (List ℕ) → Result Tree Refusal
-filter_of profile [] = Err (BadFilter 0 0)
-filter_of profile (word ∷ words) =
-    if begins_so opening word then (read_in_word 0 word (whole profile word) >>= alone words) else pairs_of profile (word ∷ words)
+filter_of Named words = named_filter_of words
+filter_of Wide words = wide_filter_of words
 
 -- what a call answered is what the words spell, unless it found no memory
 abbrev pub Refuses : {Y : Type 0} → FilterError → Result Y Refusal → Type 0

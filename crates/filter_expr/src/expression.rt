@@ -4,16 +4,17 @@ ghost use Rattle.filter_expr.specs.AsciiSong.{IsAsciiSong};
 ghost use Rattle.filter_expr.specs.Meaning.{denotes, is_match, is_at};
 ghost use Rattle.song_db.specs.Row.{Row};
 ghost use Rattle.song_db.specs.Valued.{has_value};
-ghost use Rattle.filter_expr.specs.Looks.{needed_value, tests_of};
+ghost use Rattle.filter_expr.specs.Looks.{needed_value, needs_none, tests_by, tests_of};
 ghost use Rattle.filter_expr.specs.Tree.{tree_of};
 ghost use Rattle.filter_expr.specs.declared.case.Case.TheVariants.{Exact, Folded};
 
 use crate::fallback::has_fallback;
 use crate::folded_row::FoldedRow;
-use crate::row_text::{does_hold_exact, is_at};
-use crate::subject::{Comparison, Subject};
+use crate::row_text::{does_hold_exact, does_match, has_format, is_at};
+use crate::subject::{AudioFormat, Comparison, Subject};
 use crate::time::{is_since, known_time};
 use crate::value::TestValue;
+use regular_expr::Pattern;
 use song_db::SongRow;
 use song_files::Tag;
 use std::alloc::{AllocError, Global};
@@ -22,10 +23,29 @@ use std::alloc::{AllocError, Global};
 #[derive(Debug, Drop)]
 pub(crate) enum Expression {
     Test(Subject, Comparison, TestValue),
+    Like(Subject, Pattern),
     Base(String),
     Since(u64),
+    Format(AudioFormat),
     Not(Box<Expression>),
     And(Box<Expression>, Box<Expression>),
+}
+
+/// Whether a song has no value that the test needs.
+fn needs_none(comparison: Comparison) -> bool
+    ensures { result ≡ needs_none comparison }
+{
+    match comparison {
+        Comparison::Contains | Comparison::Begins => true,
+        Comparison::Equals | Comparison::Pair | Comparison::WidePair => false,
+    }
+}
+
+/// A test for each leaf of a pattern that is looked at for a byte, and one at least.
+fn tests_by(pattern: &Pattern) -> u32
+    ensures { result ≡ tests_by pattern.now }
+{
+    pattern.visits().max(1)
 }
 
 impl Expression {
@@ -44,8 +64,10 @@ impl Expression {
             Expression::Test(subject, comparison, value) => {
                 does_hold_exact(*subject, *comparison, value, row)
             }
+            Expression::Like(subject, pattern) => does_match(false, *subject, pattern, row),
             Expression::Base(base) => is_at(base.as_str(), row.uri()),
             Expression::Since(time) => is_since(*time, known_time(row.stamp())),
+            Expression::Format(format) => has_format(*format, row),
             Expression::Not(inner) => !inner.matches_exact(row),
             Expression::And(_, _) => unreachable!(),
         }
@@ -67,7 +89,7 @@ impl Expression {
         }
         match left {
             Expression::Test(Subject::OfTag(tag), comparison, value) => {
-                if *comparison == Comparison::Contains || value.text().is_empty() {
+                if needs_none(*comparison) || value.text().is_empty() {
                     return None;
                 }
                 if has_fallback(*tag) {
@@ -100,8 +122,12 @@ impl Expression {
             Expression::Test(subject, comparison, value) => {
                 row.does_hold(alloc, *subject, *comparison, value)
             }
+            Expression::Like(subject, pattern) => {
+                Ok(does_match(true, *subject, pattern, row.row()))
+            }
             Expression::Base(base) => Ok(is_at(base.as_str(), row.path())),
             Expression::Since(time) => Ok(is_since(*time, row.modified())),
+            Expression::Format(format) => Ok(has_format(*format, row.row())),
             Expression::Not(inner) => Ok(!inner.matches_folded(alloc, row)?),
             Expression::And(_, _) => unreachable!(),
         }
@@ -112,7 +138,11 @@ impl Expression {
         ensures { result ≡ tests_of (tree_of self.now) }
     {
         match self {
-            Expression::Test(_, _, _) | Expression::Base(_) | Expression::Since(_) => 1,
+            Expression::Test(_, _, _)
+            | Expression::Base(_)
+            | Expression::Since(_)
+            | Expression::Format(_) => 1,
+            Expression::Like(_, pattern) => tests_by(pattern),
             Expression::Not(inner) => inner.tests(),
             Expression::And(others, last) => others.tests().saturating_add(last.tests()),
         }

@@ -3,7 +3,7 @@ ghost use Rattle.std.specs.Prelude.{◌≡◌, ◌*◌, ◌≤◌, count_by, IfO
 ghost use Rattle.song_db.specs.Valued.{has_value, numbers_of};
 ghost use Rattle.filter_expr.specs.Words.{Gives, filter_of};
 ghost use Rattle.filter_expr.specs.AsciiSong.{IsAsciiSong};
-ghost use Rattle.filter_expr.specs.Looks.{asked, looked_up, song_looks, tests_of};
+ghost use Rattle.filter_expr.specs.Looks.{are_few, asked, looked_up, song_looks, tests_of, told_looks};
 ghost use Rattle.filter_expr.specs.Meaning.{song_of, is_match};
 ghost use Rattle.filter_expr.specs.declared.case.Case.TheVariants.{Exact, Folded};
 
@@ -40,8 +40,8 @@ impl Model for Filter {
 }
 
 impl Filter {
-    /// The filter that words spell, by the names that the profile has: one word that is an expression, or pairs of a tag and a value,
-    /// which hold together (MPD protocol reference 0.23, "Filters").
+    /// The filter that words spell, by the names and forms that the profile has: one word that is an expression, or pairs of a tag and a
+    /// value, which hold together; in the wide profile expressions and pairs in any order (MPD protocol reference 0.23, "Filters").
     ///
     /// `BadFilter`, `UnknownTag` or `TooDeep` tells of the leftmost fault of words that spell none.
     pub fn parse<'w>(
@@ -105,6 +105,14 @@ impl Filter {
         }
     }
 
+    /// Whether those with the value by which songs are looked up are so few that this is worth it where songs are told in another order
+    /// than they are kept in. It takes no memory.
+    pub fn are_few(&self, songs: &SongDb, case: Case) -> bool
+        ensures { result ≡ are_few (looked_up case self.now) songs.now }
+    {
+        self.candidates(songs, case) < songs.len() / FEW
+    }
+
     /// How often songs are looked at where they are asked this filter: each once for each test, and so much more. Where the case counts,
     /// and the filter or a part of its outermost `AND` says that a tag has a value, those with that value alone are asked, and not that
     /// test. It takes no memory.
@@ -127,7 +135,23 @@ impl Filter {
             ),
         }
     }
+
+    /// The same where they are told in the profile's order: in the wide one all are asked, unless those with the value are few.
+    pub fn told_looks(&self, profile: Profile, songs: &SongDb, case: Case, more: u8) -> u64
+        ensures looks { result ≡ told_looks profile case self.now more songs.now }
+        ensures few { result ≤ 4294967550 * 65536 }
+    {
+        match profile {
+            Profile::Wide if !self.are_few(songs, case) => {
+                (u64::from(self.root.tests()) + u64::from(more)) * songs.len() as u64
+            }
+            _ => self.looks(songs, case, more),
+        }
+    }
 }
+
+// Where one song of so many may match, each is asked in the order in which they are told.
+const FEW: usize = 16;
 
 // So many looks at each song with a value of a tag.
 fn looks_with(songs: &SongDb, each: u64, tag: Tag, value: &TestValue) -> u64

@@ -9,7 +9,7 @@ ghost use Rattle.filter_expr.specs.declared.case.Case.TheVariants.{Folded};
 
 use crate::case::Case;
 use crate::lowered::compare_ascii;
-use crate::row_text::{occurs_in, passes_empty};
+use crate::row_text::{begins_with, occurs_in, passes_empty};
 use crate::subject::{Comparison, Subject};
 use crate::time::known_time;
 use crate::value::{TestValue, fold};
@@ -63,6 +63,7 @@ fn compare(comparison: Comparison, value: &str, text: &str) -> bool
     match comparison {
         Comparison::Equals => text == value,
         Comparison::Contains | Comparison::Pair | Comparison::WidePair => occurs_in(value, text),
+        Comparison::Begins => begins_with(value, text),
     }
 }
 
@@ -127,6 +128,12 @@ impl<'a> FoldedRow<'a> {
                 others: Vec::new(alloc),
             },
         }
+    }
+
+    pub(crate) fn row(&self) -> &SongRow
+        ensures { song_of result.now ≡ self.now }
+    {
+        self.row
     }
 
     /// The URI of the song.

@@ -19,6 +19,7 @@ pub(crate) fn compare_ascii(comparison: Comparison, value: &str, text: &str) -> 
         Comparison::Contains | Comparison::Pair | Comparison::WidePair => occurs_lowered(
             value, text,
         ),
+        Comparison::Begins => begins_lowered(value, text),
     }
 }
 

@@ -1,7 +1,7 @@
 // The names of tags and of a filter's other keys, in any case.
 ghost use Rattle.std.specs.Prelude.{◌≡◌, codes};
 ghost use Rattle.std.specs.Str.{str_eq_ignore_ascii_case};
-ghost use Rattle.filter_expr.specs.Names.{tag_named, knows_times, is_file_name, key_named};
+ghost use Rattle.filter_expr.specs.Names.{tag_named, knows_times, is_file_name, any_of, other_key, key_named};
 
 use crate::subject::Subject;
 use profile::Profile;
@@ -14,6 +14,8 @@ pub(crate) enum Key {
     Base,
     /// Since when a song's file was changed.
     Since,
+    /// What its sound is.
+    Format,
 }
 
 /// The tag of a name, if the profile has it; the case of ASCII letters doesn't count.
@@ -47,7 +49,35 @@ pub(crate) fn is_file_name(profile: Profile, name: &[u8]) -> bool
     }
 }
 
-/// What the name stands for: a tag, `any`, a song's file, `base` or, where times are known, `modified-since`.
+/// All tags, as a profile looks at them.
+fn any_of(profile: Profile) -> Subject
+    ensures { result ≡ any_of profile }
+{
+    match profile {
+        Profile::Named => Subject::Any,
+        Profile::Wide => Subject::AnyText,
+    }
+}
+
+/// What the wide profile alone looks at.
+fn other_key(profile: Profile, name: &[u8]) -> Option<Key>
+    ensures { result ≡ other_key profile name.now }
+{
+    match profile {
+        Profile::Named => None,
+        Profile::Wide => {
+            if is_named(name, b"modified-since") {
+                Some(Key::Since)
+            } else if is_named(name, b"audioformat") {
+                Some(Key::Format)
+            } else {
+                None
+            }
+        }
+    }
+}
+
+/// What the name stands for: a tag, `any`, a song's file, `base` or, in the wide profile, `modified-since` or `AudioFormat`.
 #[tactic(auto, unfolding(crate::specs::Names::key_named))]
 pub(crate) fn key_named(profile: Profile, name: &[u8]) -> Option<Key>
     ensures { result ≡ key_named profile name.now }
@@ -56,15 +86,13 @@ pub(crate) fn key_named(profile: Profile, name: &[u8]) -> Option<Key>
         return Some(Key::Of(Subject::OfTag(tag)));
     }
     if is_named(name, b"any") {
-        Some(Key::Of(Subject::Any))
+        Some(Key::Of(any_of(profile)))
     } else if is_file_name(profile, name) {
         Some(Key::Of(Subject::File))
     } else if is_named(name, b"base") {
         Some(Key::Base)
-    } else if knows_times(profile) && is_named(name, b"modified-since") {
-        Some(Key::Since)
     } else {
-        None
+        other_key(profile, name)
     }
 }
 

@@ -4,4 +4,10 @@ pub(crate) enum Operator {
     Equal,
     Unequal,
     Contains,
+    /// The other way round.
+    Lacks,
+    Begins,
+    /// By a pattern.
+    Like,
+    Unlike,
 }

@@ -4,6 +4,7 @@ ghost use Rattle.std.specs.Prelude.{if◌then◌else◌};
 ghost use Rattle.std.specs.Str.{is_utf8};
 ghost use Rattle.filter_expr.specs.Gives.{Gives};
 ghost use Rattle.filter_expr.specs.Parts.{is_blank, is_quote, ends_name, begins_so, without_blanks, byte_at, word_at, gap_at, between_gaps};
+ghost use Rattle.filter_expr.specs.Parts.{letter_at, letters_at};
 ghost use Rattle.filter_expr.specs.Parts.{name_in, behind_name, key_at, backslash, quoted, value_at};
 ghost use Rattle.filter_expr.specs.declared.parts.Stop.TheVariants as stops;
 
@@ -104,9 +105,33 @@ pub(crate) fn word_at<'a>(word: &[u8], text: &'a [u8]) -> Result<&'a [u8], Stop<
     Ok(rest)
 }
 
+/// What stands behind this lowercase letter, in any case.
+#[tactic(auto, unfolding(crate::specs::Parts::letter_at))]
+fn letter_at(letter: u8, text: &[u8]) -> Result<&[u8], Stop<'_>>
+    ensures exact { Gives (λ rest. rest.now) result (letter_at letter text.now) }
+    ensures shorter { IfOk result (λ rest. length rest.now < length text.now) }
+{
+    match text {
+        [first, rest @ ..] if first.to_ascii_lowercase() == letter => Ok(rest),
+        _ => Err(Stop::Bad(text.len())),
+    }
+}
+
+/// What stands behind these lowercase letters.
+pub(crate) fn letters_at<'a>(word: &[u8], text: &'a [u8]) -> Result<&'a [u8], Stop<'a>>
+    ensures exact { Gives (λ rest. rest.now) result (letters_at word.now text.now) }
+    ensures bound { IfOk result (λ rest. length rest.now ≤ length text.now) }
+{
+    let mut rest = text;
+    for letter in word {
+        rest = letter_at(*letter, rest)?;
+    }
+    Ok(rest)
+}
+
 /// What stands behind blanks, of which there is one at least.
 #[tactic(auto, unfolding(crate::specs::Parts::gap_at))]
-fn gap_at(text: &[u8]) -> Result<&[u8], Stop<'_>>
+pub(crate) fn gap_at(text: &[u8]) -> Result<&[u8], Stop<'_>>
     ensures exact { Gives (λ rest. rest.now) result (gap_at text.now) }
     ensures shorter { IfOk result (λ rest. length rest.now < length text.now) }
 {

@@ -61,7 +61,7 @@ fn front_of(most: usize, text: &[u8]) -> usize
 }
 
 /// A number of one digit to so many, as many as there are.
-fn short_at(count: usize, least: u64, most: u64, text: &[u8]) -> Option<(u64, &[u8])>
+pub(crate) fn short_at(count: usize, least: u64, most: u64, text: &[u8]) -> Option<(u64, &[u8])>
     ensures value { option_map (λ x. (x.0, x.1.now)) result ≡ short_at count least most text.now }
     ensures bounds { IfSome result (λ x. (least ≤ x.0) × (x.0 ≤ most)) }
 {

@@ -1,12 +1,11 @@
 // Reads a filter from words: one expression, or pairs of a tag and its value.
-ghost use Rattle.std.specs.Prelude.{◌≡◌, ◌+◌, ◌<◌, ◌^◌, Some, None, IfOk, option_map, string_bytes, if◌then◌else◌};
+ghost use Rattle.std.specs.Prelude.{◌≡◌, ◌+◌, ◌<◌, ◌≤◌, ◌^◌, length, Some, None, IfOk, option_map, string_bytes, if◌then◌else◌};
 ghost use Rattle.std.specs.Str.{is_utf8};
 ghost use Rattle.filter_expr.specs.Names.{key_named};
 ghost use Rattle.filter_expr.specs.Reading.{whole};
 ghost use Rattle.filter_expr.specs.Tree.{tree_of};
-ghost use Rattle.filter_expr.specs.Words.{Gives, error_in, read_in_word, keyed, half_pair, pair_of, pair_tree, paired};
-ghost use Rattle.filter_expr.specs.Words.{pair_at, pairs_of};
-ghost use Rattle.filter_expr.specs.Words.{filter_of};
+ghost use Rattle.filter_expr.specs.Words.{Gives, error_in, read_in_word, keyed, half_pair, paired, pair_of, pair_tree, pair_at, pairs_of};
+ghost use Rattle.filter_expr.specs.Words.{named_filter_of, part_of, part_length, wide_filter_of, filter_of};
 ghost use Rattle.filter_expr.specs.declared.refusal.FilterError.TheVariants as errors;
 
 use crate::expression::Expression;
@@ -39,17 +38,18 @@ fn error_in<'a>(number: usize, word: &[u8], stop: Stop<'a>) -> FilterError<'a>
     }
 }
 
-/// The expression that the first word spells.
+/// The expression that a word of this number spells.
 fn expression_of(
     alloc: Global,
     profile: Profile,
+    number: usize,
     word: &[u8],
 ) -> Result<Expression, FilterError<'_>>
-    ensures { Gives tree_of result (read_in_word 0 word.now (whole profile word.now)) }
+    ensures { Gives tree_of result (read_in_word number word.now (whole profile word.now)) }
 {
     match whole(alloc, profile, word) {
         Ok(tree) => Ok(tree),
-        Err(stop) => Err(error_in(0, word, stop)),
+        Err(stop) => Err(error_in(number, word, stop)),
     }
 }
 
@@ -131,6 +131,7 @@ fn pair<'a>(
             let value = TestValue::new(alloc, value)?;
             Ok(Expression::Test(subject, paired(profile), value))
         }
+        Key::Format => Err(bad_word(number)),
     }
 }
 
@@ -179,6 +180,76 @@ fn pairs_of<'w>(
     Ok(tree)
 }
 
+/// What the words say in the named subset.
+#[tactic(auto, unfolding(crate::specs::Words::named_filter_of))]
+fn named_filter_of<'w>(
+    alloc: Global,
+    words: &'w [LineWord<'_>],
+) -> Result<Expression, FilterError<'w>>
+    ensures { Gives tree_of result (named_filter_of words.now) }
+{
+    let Some((word, others)) = words.split_first() else {
+        return Err(bad_word(0));
+    };
+    if !begins_so(b'(', word.bytes()) {
+        return pairs_of(alloc, Profile::Named, words);
+    }
+    let tree = expression_of(alloc, Profile::Named, 0, word.bytes())?;
+    if !others.is_empty() {
+        return Err(bad_word(1));
+    }
+    Ok(tree)
+}
+
+/// The expression or the pair in front of these words, the first of which has this number.
+fn part_of<'w>(
+    alloc: Global,
+    number: usize,
+    words: &'w [LineWord<'_>],
+) -> Result<Expression, FilterError<'w>>
+    requires { number + 1 < 2 ^ 64 }
+    ensures { Gives tree_of result (part_of number words.now) }
+{
+    match words {
+        [] => Err(bad_word(number)),
+        [word, ..] if begins_so(b'(', word.bytes()) => {
+            expression_of(alloc, Profile::Wide, number, word.bytes())
+        }
+        _ => pair_at(alloc, Profile::Wide, number, words),
+    }
+}
+
+/// How many words it takes.
+fn part_length(words: &[LineWord<'_>]) -> usize
+    ensures value { result ≡ part_length words.now }
+    ensures some { 0 < length words.now → 0 < result }
+    ensures few { result ≤ 2 }
+{
+    match words {
+        [] => 0,
+        [word, ..] if begins_so(b'(', word.bytes()) => 1,
+        _ => 2,
+    }
+}
+
+/// What holds where all the expressions and pairs of these words do.
+fn wide_filter_of<'w>(
+    alloc: Global,
+    words: &'w [LineWord<'_>],
+) -> Result<Expression, FilterError<'w>>
+    ensures { Gives tree_of result (wide_filter_of words.now) }
+{
+    let mut tree = part_of(alloc, 0, words)?;
+    let mut number = part_length(words);
+    'parts: while number < words.len() {
+        let rest = &words[number..];
+        let part = part_of(alloc, number, rest)?;
+        tree = both(alloc, tree, part)?;
+        number += part_length(rest);
+    }
+    Ok(tree)
+}
+
 /// What the words say.
 #[tactic(auto, unfolding(crate::specs::Words::filter_of))]
 pub(crate) fn filter_of<'w>(
@@ -188,15 +259,8 @@ pub(crate) fn filter_of<'w>(
 ) -> Result<Expression, FilterError<'w>>
     ensures { Gives tree_of result (filter_of profile words.now) }
 {
-    let Some((word, others)) = words.split_first() else {
-        return Err(bad_word(0));
-    };
-    if !begins_so(b'(', word.bytes()) {
-        return pairs_of(alloc, profile, words);
+    match profile {
+        Profile::Named => named_filter_of(alloc, words),
+        Profile::Wide => wide_filter_of(alloc, words),
     }
-    let tree = expression_of(alloc, profile, word.bytes())?;
-    if !others.is_empty() {
-        return Err(bad_word(1));
-    }
-    Ok(tree)
 }

@@ -1,3 +1,4 @@
 mod Place
 mod Rising
+mod Sets
 mod Steps

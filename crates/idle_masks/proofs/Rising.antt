@@ -10,7 +10,7 @@ use Rattle.idle_masks.specs.declared.subsystem.Subsystems.{Subsystems}
 use Rattle.idle_masks.specs.declared.ready.Report.{Report}
 use Rattle.idle_masks.specs.declared.watch.Watched.{Watched}
 use Rattle.idle_masks.specs.Watched.{newcomer, client_at, IsRising, IsAt, IsGapFor, watched, joined, left, marked, grown, told_to_wait}
-use Rattle.idle_masks.specs.Watched.{with_waiting, after_reports, reported, due, reports_of, AreRising}
+use Rattle.idle_masks.specs.Watched.{with_waiting, after_reports, reported, due, reports_of, AreRising, nat_among, grown_among, marked_some}
 use Rattle.idle_masks.specs.Subsystems.{is_empty, difference}
 use Rattle.idle_masks.proofs.Place.{only_at, watched_absent, watched_only, left_only, with_waiting_only, below_front, above_back}
 
@@ -97,6 +97,11 @@ rising_left ws c = AllPairs-filter (λ (v w : Watched). v.client < w.client) (λ
 
 pub rising_marked : (ws : List Watched) (changed : Subsystems) → IsRising ws → IsRising (marked ws changed)
 rising_marked ws changed = rising_map (grown changed) (λ w. refl) ws
+
+pub rising_marked_some : (ws : List Watched) (clients : List ℕ) (changed : Subsystems) → IsRising ws → IsRising (marked_some ws clients changed)
+rising_marked_some ws clients changed = rising_map (grown_among clients changed) (λ w. elim (nat_among w.client clients) as
+    (λ b. (let v : Watched = if b then grown changed w else w in v.client) ≡ w.client)
+    [ true ↦ refl | false ↦ refl ]) ws
 
 pub rising_after_reports : (ws : List Watched) → IsRising ws → IsRising (after_reports ws)
 rising_after_reports ws =

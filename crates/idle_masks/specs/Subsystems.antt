@@ -5,7 +5,7 @@ use Rattle.std.specs.List.{list_any}
 use Rattle.std.specs.Str.{bytes_eq}
 use Rattle.idle_masks.specs.declared.subsystem.Subsystem.{Subsystem}
 use Rattle.idle_masks.specs.declared.subsystem.Subsystem.TheVariants.{Database, Update, StoredPlaylist, Playlist, Player, Mixer, Options}
-use Rattle.idle_masks.specs.declared.subsystem.Subsystem.TheVariants.{Sticker}
+use Rattle.idle_masks.specs.declared.subsystem.Subsystem.TheVariants.{Sticker, Subscription, Message}
 use Rattle.idle_masks.specs.declared.subsystem.Subsystems.{Subsystems}
 use Rattle.idle_masks.specs.Subsystem.{in_printed_order, subsystem_named}
 
@@ -19,6 +19,8 @@ contains set Player = set.player
 contains set Mixer = set.mixer
 contains set Options = set.options
 contains set Sticker = set.sticker
+contains set Subscription = set.subscription
+contains set Message = set.message
 
 -- the set of those that pass a test
 abbrev pub set_of : (Subsystem → Bool) → Subsystems
@@ -31,13 +33,15 @@ set_of test = record {
   mixer = test Mixer;
   options = test Options;
   sticker = test Sticker;
+  subscription = test Subscription;
+  message = test Message;
 }
 
 -- no subsystem
 abbrev pub none : Subsystems
 none = set_of (λ _. false)
 
--- all eight
+-- all ten
 abbrev pub every : Subsystems
 every = set_of (λ _. true)
 
@@ -51,6 +55,8 @@ only Player = record none { player = true }
 only Mixer = record none { mixer = true }
 only Options = record none { options = true }
 only Sticker = record none { sticker = true }
+only Subscription = record none { subscription = true }
+only Message = record none { message = true }
 
 -- what either has
 abbrev pub union : Subsystems → Subsystems → Subsystems
@@ -74,7 +80,7 @@ listed set = filter (contains set) in_printed_order
 
 -- the names that `idle` takes and never reports
 abbrev pub unreported_names : List (List ℕ)
-unreported_names = codes "output" ∷ codes "partition" ∷ codes "subscription" ∷ codes "message" ∷ codes "neighbor" ∷ codes "mount" ∷ []
+unreported_names = codes "output" ∷ codes "partition" ∷ codes "neighbor" ∷ codes "mount" ∷ []
 
 -- the word is one of these
 abbrev pub is_unreported_name : List ℕ → Bool

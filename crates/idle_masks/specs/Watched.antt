@@ -1,7 +1,7 @@
 -- The watched clients, a list by rising number, and what each call makes of it.
-use Rattle.std.specs.Prelude.{◌≡◌, ℕ, ◌<◌, ◌≤◌, length, slice_index_or, nat_lt, not, ◌==◌, List, ◌∷◌, ◌++◌, Option, Some, None, filter, map}
+use Rattle.std.specs.Prelude.{◌≡◌, ℕ, ◌<◌, ◌≤◌, length, slice_index_or, nat_lt, Bool, not, ◌==◌, List, ◌∷◌, ◌++◌, Option, Some, None, filter, map}
 use Rattle.std.specs.Prelude.{find, unwrap_or, if◌then◌else◌}
-use Rattle.std.specs.List.{filter_map, AllPairs}
+use Rattle.std.specs.List.{filter_map, list_any, AllPairs}
 use Rattle.idle_masks.specs.declared.subsystem.Subsystems.{Subsystems}
 use Rattle.idle_masks.specs.declared.watch.Watched.{Watched}
 use Rattle.idle_masks.specs.declared.ready.Report.{Report}
@@ -42,6 +42,10 @@ joined ws c = filter (λ w. nat_lt w.client c) ws ++ newcomer c ∷ filter (λ w
 abbrev pub left : List Watched → ℕ → List Watched
 left ws c = filter (λ w. not (w.client == c)) ws
 
+-- the number is one of these
+abbrev pub nat_among : ℕ → List ℕ → Bool
+nat_among c clients = list_any (λ d. d == c) clients
+
 -- the client with the subsystems pending too
 abbrev pub grown : Subsystems → Watched → Watched
 grown changed w = record w { pending = union w.pending changed }
@@ -49,6 +53,14 @@ grown changed w = record w { pending = union w.pending changed }
 -- the subsystems are pending for every client
 abbrev pub marked : List Watched → Subsystems → List Watched
 marked ws changed = map (grown changed) ws
+
+-- the client with the subsystems pending too, if it is one of these
+abbrev pub grown_among : List ℕ → Subsystems → Watched → Watched
+grown_among clients changed w = if nat_among w.client clients then grown changed w else w
+
+-- the subsystems are pending for these clients too
+abbrev pub marked_some : List Watched → List ℕ → Subsystems → List Watched
+marked_some ws clients changed = map (grown_among clients changed) ws
 
 -- the client waiting for these subsystems, or not waiting, if its number is c
 abbrev pub told_to_wait : ℕ → Option Subsystems → Watched → Watched

@@ -24,11 +24,15 @@ pub enum Subsystem {
     Options,
     /// The sticker database.
     Sticker,
+    /// A client subscribed to a channel, or unsubscribed.
+    Subscription,
+    /// A message came for a client that had read all.
+    Message,
 }
 
 impl Subsystem {
     /// All of them, in printed order.
-    pub const ALL: [Subsystem; 8] = [
+    pub const ALL: [Subsystem; 10] = [
         Subsystem::Database,
         Subsystem::Update,
         Subsystem::StoredPlaylist,
@@ -37,6 +41,8 @@ impl Subsystem {
         Subsystem::Mixer,
         Subsystem::Options,
         Subsystem::Sticker,
+        Subsystem::Subscription,
+        Subsystem::Message,
     ];
 
     /// The name in `idle` and after `changed: `.
@@ -52,6 +58,8 @@ impl Subsystem {
             Subsystem::Mixer => "mixer",
             Subsystem::Options => "options",
             Subsystem::Sticker => "sticker",
+            Subsystem::Subscription => "subscription",
+            Subsystem::Message => "message",
         }
     }
 
@@ -77,6 +85,8 @@ pub struct Subsystems {
     pub mixer: bool,
     pub options: bool,
     pub sticker: bool,
+    pub subscription: bool,
+    pub message: bool,
 }
 
 impl Subsystems {
@@ -93,10 +103,12 @@ impl Subsystems {
             mixer: false,
             options: false,
             sticker: false,
+            subscription: false,
+            message: false,
         }
     }
 
-    /// The set of all eight, as `idle` without a name asks for.
+    /// The set of all ten, as `idle` without a name asks for.
     pub fn all() -> Self
         ensures { result ≡ every }
     {
@@ -109,6 +121,8 @@ impl Subsystems {
             mixer: true,
             options: true,
             sticker: true,
+            subscription: true,
+            message: true,
         }
     }
 
@@ -126,12 +140,14 @@ impl Subsystems {
             Subsystem::Mixer => set.mixer = true,
             Subsystem::Options => set.options = true,
             Subsystem::Sticker => set.sticker = true,
+            Subsystem::Subscription => set.subscription = true,
+            Subsystem::Message => set.message = true,
         }
         set
     }
 
-    /// What a word of `idle` asks for: its subsystem, or nothing for `output`, `partition`, `subscription`, `message`, `neighbor` and
-    /// `mount`, which `idle` takes and which are never reported. `None` for any other word.
+    /// What a word of `idle` asks for: its subsystem, or nothing for `output`, `partition`, `neighbor` and `mount`, which
+    /// `idle` takes and which are never reported. `None` for any other word.
     pub fn named(word: &[u8]) -> Option<Self>
         ensures { result ≡ mask_named word.now }
     {
@@ -156,6 +172,8 @@ impl Subsystems {
             Subsystem::Mixer => self.mixer,
             Subsystem::Options => self.options,
             Subsystem::Sticker => self.sticker,
+            Subsystem::Subscription => self.subscription,
+            Subsystem::Message => self.message,
         }
     }
 
@@ -169,7 +187,9 @@ impl Subsystems {
             || self.player
             || self.mixer
             || self.options
-            || self.sticker)
+            || self.sticker
+            || self.subscription
+            || self.message)
     }
 
     /// What either set has.
@@ -177,14 +197,16 @@ impl Subsystems {
         ensures { result ≡ union self other }
     {
         Subsystems {
-            database: self.database || other.database,
-            update: self.update || other.update,
-            stored_playlist: self.stored_playlist || other.stored_playlist,
-            playlist: self.playlist || other.playlist,
-            player: self.player || other.player,
-            mixer: self.mixer || other.mixer,
-            options: self.options || other.options,
-            sticker: self.sticker || other.sticker,
+            database: self.database | other.database,
+            update: self.update | other.update,
+            stored_playlist: self.stored_playlist | other.stored_playlist,
+            playlist: self.playlist | other.playlist,
+            player: self.player | other.player,
+            mixer: self.mixer | other.mixer,
+            options: self.options | other.options,
+            sticker: self.sticker | other.sticker,
+            subscription: self.subscription | other.subscription,
+            message: self.message | other.message,
         }
     }
 
@@ -193,14 +215,16 @@ impl Subsystems {
         ensures { result ≡ intersection self other }
     {
         Subsystems {
-            database: self.database && other.database,
-            update: self.update && other.update,
-            stored_playlist: self.stored_playlist && other.stored_playlist,
-            playlist: self.playlist && other.playlist,
-            player: self.player && other.player,
-            mixer: self.mixer && other.mixer,
-            options: self.options && other.options,
-            sticker: self.sticker && other.sticker,
+            database: self.database & other.database,
+            update: self.update & other.update,
+            stored_playlist: self.stored_playlist & other.stored_playlist,
+            playlist: self.playlist & other.playlist,
+            player: self.player & other.player,
+            mixer: self.mixer & other.mixer,
+            options: self.options & other.options,
+            sticker: self.sticker & other.sticker,
+            subscription: self.subscription & other.subscription,
+            message: self.message & other.message,
         }
     }
 
@@ -209,14 +233,16 @@ impl Subsystems {
         ensures { result ≡ difference self other }
     {
         Subsystems {
-            database: self.database && !other.database,
-            update: self.update && !other.update,
-            stored_playlist: self.stored_playlist && !other.stored_playlist,
-            playlist: self.playlist && !other.playlist,
-            player: self.player && !other.player,
-            mixer: self.mixer && !other.mixer,
-            options: self.options && !other.options,
-            sticker: self.sticker && !other.sticker,
+            database: self.database & !other.database,
+            update: self.update & !other.update,
+            stored_playlist: self.stored_playlist & !other.stored_playlist,
+            playlist: self.playlist & !other.playlist,
+            player: self.player & !other.player,
+            mixer: self.mixer & !other.mixer,
+            options: self.options & !other.options,
+            sticker: self.sticker & !other.sticker,
+            subscription: self.subscription & !other.subscription,
+            message: self.message & !other.message,
         }
     }
 }
@@ -226,10 +252,5 @@ fn is_unreported_name(word: &[u8]) -> bool
     ensures { result ≡ is_unreported_name word.now }
 {
     let is = |name: &str| name.as_bytes() == word;
-    is("output")
-        || is("partition")
-        || is("subscription")
-        || is("message")
-        || is("neighbor")
-        || is("mount")
+    is("output") || is("partition") || is("neighbor") || is("mount")
 }

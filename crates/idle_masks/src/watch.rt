@@ -3,7 +3,7 @@ ghost use Rattle.std.specs.Prelude.{◌≡◌, ◌≤◌, ◌↔◌, List, [], l
 ghost use Rattle.std.specs.Prelude.{OnErr};
 ghost use Rattle.idle_masks.specs.Subsystems.{none};
 ghost use Rattle.idle_masks.specs.Watched.{IsRising, IsAt, IsGapFor, watched, joined, left, grown, marked, with_waiting, due, report_of};
-ghost use Rattle.idle_masks.specs.Watched.{reported, reports_of, after_reports, AreRising};
+ghost use Rattle.idle_masks.specs.Watched.{reported, reports_of, after_reports, AreRising, grown_among, marked_some};
 
 use crate::ClientId;
 use crate::ready::{ReadyRoom, Report, Reports, take_ready};
@@ -55,6 +55,15 @@ impl Watched {
         ensures { self.new ≡ grown changed self.old }
     {
         self.pending = self.pending.union(changed);
+    }
+
+    // The same, if the client is one of these.
+    fn grow_among(&mut self, clients: &[ClientId], changed: Subsystems)
+        ensures { self.new ≡ grown_among clients.now changed self.old }
+    {
+        if clients.contains(&self.client) {
+            self.grow(changed);
+        }
     }
 }
 
@@ -165,6 +174,13 @@ impl Watch {
         mark_all(&mut self.clients, changed);
     }
 
+    /// Makes the subsystems pending for those of these clients that are watched.
+    pub fn mark_some(&mut self, clients: &[ClientId], changed: Subsystems)
+        ensures { self.new ≡ marked_some self.old clients.now changed }
+    {
+        mark_each(&mut self.clients, clients, changed);
+    }
+
     /// Lets the client wait for these subsystems; they may be none. A mask that it had is replaced. A client that isn't watched is refused
     /// by `NoSuchClient`.
     pub fn wait(&mut self, client: ClientId, mask: Subsystems) -> Result<(), WatchError>
@@ -258,5 +274,15 @@ fn mark_all(clients: &mut [Watched], changed: Subsystems)
 {
     for watched in clients.iter_mut() {
         watched.grow(changed);
+    }
+}
+
+// Makes the subsystems pending for these clients.
+fn mark_each(watched: &mut [Watched], clients: &[ClientId], changed: Subsystems)
+    ensures marked { watched.new ≡ marked_some watched.old clients.now changed }
+    ensures rising { IsRising watched.old → IsRising watched.new }
+{
+    for one in watched.iter_mut() {
+        one.grow_among(clients, changed);
     }
 }

@@ -25,7 +25,7 @@ use Rattle.live_stage.specs.Answer.{Answer, IsBeforeOrAfter, IsHandled, IsTurn, 
 use Rattle.live_stage.specs.Found.{AllFindNow, AllFindSince}
 use Rattle.live_stage.specs.LiveState.{LiveState}
 use Rattle.live_stage.specs.Numbers.{Numbers, FileNumbers, is_due, most_records, most_bytes, longest_record, next_file}
-use Rattle.live_stage.specs.Numbers.{first_file, first_numbers, greatest, ready_file, record_bytes, recorded, file_found, snapshot_size}
+use Rattle.live_stage.specs.Numbers.{first_file, first_numbers, greatest, next_numbers, ready_file, record_bytes, recorded, file_found, snapshot_size}
 use Rattle.live_stage.specs.Turns.{IsReady, IsStill, IsStored, IsWritten, StaysInFile, MakesNoCall, WritesAlone, WritesOneFile}
 use Rattle.live_stage.specs.Turns.{ready_content, recorded_content, writes_to_b}
 use Rattle.live_stage.specs.Writing.{file_of}
@@ -127,6 +127,19 @@ numbers_made faults a b journal layout size is =
     let numbers : ℕ → Numbers = λ last. record { event = 0; last_record = last } in
     let none : min (journal.base + journal.count) greatest ≡ 0 = omega (arith, is.base, is.count) in
     ap (λ (n : ℕ). numbers n) none
+
+-- the numbers behind an event with these ops, whose record was written
+pub numbers_next : {D : Type 0} (old new : JournalState D) (event : ℕ) (ops : List Op) → old.base + old.count < greatest
+    → new.base ≡ old.base → (ops ≡ [] → new ≡ old) → ((ops ≡ [] → ⊥) → new.count ≡ old.count + 1)
+    → record { event = event + 1; last_record = min (new.base + new.count) greatest }
+    ≡ next_numbers (record { event = event; last_record = min (old.base + old.count) greatest }) ops
+numbers_next {D} old new event [] below base none some =
+    ap (λ (j : JournalState D). record { event = event + 1; last_record = min (j.base + j.count) greatest }) (none refl)
+numbers_next old new event (op ∷ ops) below base none some =
+    let full : op ∷ ops ≡ [] → ⊥ = λ none. omega (arith, ap length none) in
+    let last : min (new.base + new.count) greatest ≡ min (old.base + old.count) greatest + 1 =
+    omega (arith, below, base, some full) in
+    ap (λ (n : ℕ). record { event = event + 1; last_record = n }) last
 
 -- the file that a journal's content says
 pub file_is : {D : Type 0} (journal : JournalState D) → AreItsNumbers journal → file_of journal ≡ file_found journal.content

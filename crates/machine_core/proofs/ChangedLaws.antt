@@ -33,7 +33,7 @@ job_told a b true is place =
     ap (λ t. t && same_flag a.runs b.runs) (sym (ap (λ p. option_eq bytes_eq a.place p) (sym equal) ∙ text_itself a.place))
 job_told a b false is place = refl
 
--- so all eight are told
+-- so all are told
 pub since_is_changed : (m : MachineState) (x : Meaning) → IsLawful m x → IsSavedState m.saved →
     changed_since (before_of m) x.ops x.after ≡ changed m x.after
 unfolding changed
@@ -50,6 +50,8 @@ since_is_changed m x lawful kept =
       mixer = not (m.saved.volume == x.after.saved.volume);
       options = not (same_options m.saved.options x.after.saved.options);
       sticker = tells.stickers i;
+      subscription = false;
+      message = false;
     }
 
 -- so they are of a command, told by the ops that the work has gained

@@ -260,5 +260,6 @@ module _ (Q : MachineState → Meaning → Type 0) (of : OfForms Q) where
   command_so mask (topics.Lists command) m = lists_so mask command m
   command_so mask (topics.Stickers command) m = stickers_so command m
   command_so mask (topics.Playing command) m = playing_so mask command m
+  command_so mask (topics.Messages command) m = says_so [] m
   command_so mask (topics.Session command) m = says_so [] m
   command_so mask (topics.Setup command) m = says_so (setup_lines command) m

@@ -64,4 +64,6 @@ changed_since before ops m = record {
   mixer = not (before.volume == m.saved.volume);
   options = not (same_options before.options m.saved.options);
   sticker = list_any is_of_stickers ops;
+  subscription = false;
+  message = false;
 }

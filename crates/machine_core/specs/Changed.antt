@@ -51,7 +51,7 @@ same_sticker a b = bytes_eq a.uri b.uri && (bytes_eq a.name b.name && bytes_eq a
 abbrev pub same_stickers : List Sticker → List Sticker → Bool
 same_stickers a b = pointwise same_sticker a b
 
--- `database` changes at the end of a scan alone, which says so itself
+-- `database` changes at the end of a scan alone, which says so itself; `subscription` and `message` are none of the machine's
 unfoldable pub changed : MachineState → MachineState → Subsystems
 changed m n = record {
   database = false;
@@ -62,4 +62,6 @@ changed m n = record {
   mixer = not (m.saved.volume == n.saved.volume);
   options = not (same_options m.saved.options n.saved.options);
   sticker = not (same_stickers m.saved.stickers n.saved.stickers);
+  subscription = false;
+  message = false;
 }

@@ -25,5 +25,6 @@ meaning mask (commands.Finding command) m = finding_meaning mask command m
 meaning mask (commands.Lists command) m = lists_meaning mask command m
 meaning mask (commands.Stickers command) m = stickers_meaning command m
 meaning mask (commands.Playing command) m = playing_meaning mask command m
+meaning mask (commands.Messages command) m = says [] m
 meaning mask (commands.Session command) m = says [] m
 meaning mask (commands.Setup command) m = setup_meaning command m

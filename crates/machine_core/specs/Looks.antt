@@ -20,7 +20,7 @@ use Rattle.command_text.specs.declared.command.sticker.StickersCommand.TheVarian
 use Rattle.command_text.specs.declared.range.Window.{Window}
 use Rattle.command_text.specs.declared.refusal.CommandRefusal.{CommandRefusal}
 use Rattle.command_text.specs.declared.refusal.CommandRefusal.TheVariants.{RequestTooLarge}
-use Rattle.filter_expr.specs.Looks.{song_looks, tests_of}
+use Rattle.filter_expr.specs.Looks.{song_looks, tests_of, told_looks}
 use Rattle.filter_expr.specs.Tree.{Tree}
 use Rattle.filter_expr.specs.declared.case.Case.TheVariants.{Exact, Folded}
 use Rattle.filter_expr.specs.declared.order.SortOrder.{SortOrder}
@@ -86,7 +86,8 @@ arranged profile (Some order) window = 4
 
 -- What is found is bounded by the answer or by the changes.
 abbrev pub search_looks : Search → MachineState → ℕ
-search_looks search m = 10 * song_looks search.case search.filter (arranged m.saved.profile search.sort search.window) m.saved.songs
+search_looks search m =
+    10 * told_looks m.saved.profile search.case search.filter (arranged m.saved.profile search.sort search.window) m.saved.songs
 
 -- the values of a tag: of all songs they are there, those of songs that are found are sorted
 abbrev pub values_looks : Option Tree → MachineState → ℕ
@@ -150,5 +151,6 @@ looks_of (commands.Finding command) m = finding_looks command m
 looks_of (commands.Lists command) m = lists_looks command m
 looks_of (commands.Stickers command) m = stickers_looks command m
 looks_of (commands.Playing command) m = choice_looks m
+looks_of (commands.Messages command) m = 0
 looks_of (commands.Session command) m = 0
 looks_of (commands.Setup command) m = 0

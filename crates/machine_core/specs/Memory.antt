@@ -10,6 +10,8 @@ use Rattle.command_text.specs.declared.command.queue.QueueCommand.{QueueCommand}
 use Rattle.command_text.specs.declared.command.queue.QueueCommand.TheVariants as queue
 use Rattle.command_text.specs.declared.command.settings.SettingsCommand.{SettingsCommand}
 use Rattle.command_text.specs.declared.command.settings.SettingsCommand.TheVariants as settings
+use Rattle.command_text.specs.declared.command.messages.MessagesCommand.{MessagesCommand}
+use Rattle.command_text.specs.declared.command.messages.MessagesCommand.TheVariants as messages
 use Rattle.command_text.specs.declared.command.setup.SetupCommand.{SetupCommand}
 use Rattle.command_text.specs.declared.command.setup.SetupCommand.TheVariants as setup
 use Rattle.command_text.specs.Masks.{all_in_mask}
@@ -60,6 +62,11 @@ playing_takes_memory (playing.Pause switch) = false
 playing_takes_memory playing.Stop = false
 playing_takes_memory command = true
 
+-- of the commands of messages only the end of a subscription takes none
+abbrev pub messages_take_memory : MessagesCommand → Bool
+messages_take_memory (messages.Unsubscribe channel) = false
+messages_take_memory command = true
+
 abbrev pub setup_takes_memory : SetupCommand → Bool
 setup_takes_memory setup.Nothing = false
 setup_takes_memory command = true
@@ -73,5 +80,6 @@ takes_memory (commands.Finding command) m = true
 takes_memory (commands.Lists command) m = true
 takes_memory (commands.Stickers command) m = true
 takes_memory (commands.Playing command) m = playing_takes_memory command
+takes_memory (commands.Messages command) m = messages_take_memory command
 takes_memory (commands.Session command) m = false
 takes_memory (commands.Setup command) m = setup_takes_memory command

@@ -57,6 +57,9 @@ impl Machine {
             mixer: before.volume.percent() != self.saved.volume().percent(),
             options: !same_options(before.options, self.saved.options()),
             sticker: have_sticker_op(made),
+            // The daemon tells these itself.
+            subscription: false,
+            message: false,
         }
     }
 

@@ -74,7 +74,8 @@ impl Machine {
             Command::Lists(command) => self.perform_lists(alloc, mask, command, work),
             Command::Stickers(command) => self.perform_stickers(alloc, command, work),
             Command::Playing(command) => self.perform_playing(alloc, mask, command, work),
-            Command::Session(_) => Ok(()),
+            // The daemon performs these.
+            Command::Messages(_) | Command::Session(_) => Ok(()),
             Command::Setup(command) => self.perform_setup(command, work),
         }
     }

@@ -109,6 +109,7 @@ impl Machine {
             Command::Lists(command) => self.lists_looks(command),
             Command::Stickers(command) => self.stickers_looks(command),
             Command::Playing(_) => self.choice_looks(),
+            Command::Messages(_) => 0,
             Command::Session(_) => 0,
             Command::Setup(_) => 0,
         }
@@ -197,8 +198,11 @@ impl Machine {
     fn search_looks(&self, search: &Search) -> u64
         ensures { result ≡ search_looks search.now self.now }
     {
-        let more = arranged(self.saved.profile(), search.sort, search.window);
-        10 * search.filter.looks(self.saved.songs(), search.case, more)
+        let profile = self.saved.profile();
+        let more = arranged(profile, search.sort, search.window);
+        10 * search
+            .filter
+            .told_looks(profile, self.saved.songs(), search.case, more)
     }
 
     fn values_looks(&self, filter: Option<&Filter>) -> u64

@@ -207,8 +207,8 @@ impl Work {
         self.push(profile, second);
     }
 
-    // Keeps the text that was written from this place on, with room for what ends a command, or cuts it off.
-    pub(crate) fn keep(&mut self, mark: usize, written: Result<(), NoMemory>) -> Result<(), Failure>
+    /// Keeps the text that was written from this place on, with room for what ends a command, or cuts it off.
+    pub fn keep(&mut self, mark: usize, written: Result<(), NoMemory>) -> Result<(), Failure>
         requires { mark ≤ vec_len self.old.text }
         ensures { Keeps mark written self.old self.new result }
     {

@@ -10,6 +10,8 @@ mod messages;
 #[cfg(test)]
 mod outputs;
 #[cfg(test)]
+mod patterns;
+#[cfg(test)]
 mod pictures;
 #[cfg(test)]
 mod plain_queue;

@@ -110,6 +110,7 @@ fn append_command_text(
         CommandRefusal::OutOfMemory => append(out, &[b"out of memory"]),
         CommandRefusal::Setup(refusal) => append(out, &[refusal.text().as_bytes()]),
         CommandRefusal::Tags(refusal) => append(out, &[refusal.text().as_bytes()]),
+        CommandRefusal::Messages(refusal) => append(out, &[refusal.text().as_bytes()]),
     }
 }
 

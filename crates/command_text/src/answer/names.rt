@@ -2,6 +2,7 @@
 ghost use Rattle.std.specs.Prelude.{[], if◌then◌else◌};
 ghost use Rattle.command_text.specs.Answer.{Adds};
 ghost use Rattle.command_text.specs.AnswerNames.{directory_line, list_time, playlist_lines, sticker_line, value_line, tag_type_line};
+ghost use Rattle.command_text.specs.AnswerNames.{channel_line, message_lines};
 ghost use Rattle.command_text.specs.AnswerNames.{changed_line, command_line, count_lines, database_lines, listed_commands, times_lines};
 ghost use Rattle.command_text.specs.Names.{is_listed};
 
@@ -47,6 +48,21 @@ pub fn write_sticker(out: &mut Vec<u8>, name: &str, value: &str) -> Result<(), N
         out,
         &[b"sticker: ", name.as_bytes(), b"=", value.as_bytes(), b"\n"],
     )
+}
+
+/// Adds the line `channel: NAME`.
+pub fn write_channel(out: &mut Vec<u8>, name: &str) -> Result<(), NoMemory>
+    ensures { Adds (channel_line name.now) result out.old out.new }
+{
+    write_pair(out, "channel", name.as_bytes())
+}
+
+/// Adds the lines of a message: its channel and its text.
+pub fn write_message(out: &mut Vec<u8>, channel: &str, text: &str) -> Result<(), NoMemory>
+    ensures { Adds (message_lines channel.now text.now) result out.old out.new }
+{
+    write_channel(out, channel)?;
+    write_pair(out, "message", text.as_bytes())
 }
 
 /// Adds the line `TAG: VALUE`.

@@ -2,8 +2,11 @@
 ghost use Rattle.std.specs.Prelude.{◌≡◌, ◌+◌, ◌<◌, ◌≤◌, ◌^◌, length, IsTrue, IsSome};
 ghost use Rattle.std.specs.Option.{option_map};
 ghost use Rattle.std.specs.Result.{result_map_both};
-ghost use Rattle.command_text.specs.Finding.{is_expression, are_pairs, has_filter_count, has_search_count, begins_part, pairs_length};
+ghost use Rattle.command_text.specs.Finding.{is_expression, are_pairs, named_filter_count, named_search_count, begins_part, pairs_length};
+ghost use Rattle.command_text.specs.Finding.{ends_filter, pair_length, next_length, mixed_length, first_length, is_begun, has_filter_count};
+ghost use Rattle.command_text.specs.Finding.{has_search_count};
 ghost use Rattle.filter_expr.specs.Parts.{opening, begins_so};
+ghost use Rattle.profile.specs.declared.profile.Profile.TheVariants.{Named, Wide};
 ghost use Rattle.command_text.specs.Finding.{filter_length, value_behind, second_place, sort_part, window_part, position_part};
 ghost use Rattle.command_text.specs.Finding.{nothing_left};
 ghost use Rattle.command_text.specs.Finding.{search_parts, find_of, find_add_of, filter_alone, add_to_playlist_of, list_of, finding_of};
@@ -114,9 +117,9 @@ fn are_pairs(words: &[LineWord<'_>]) -> bool
     words.len() >= 2 && words.len() % 2 == 0
 }
 
-/// Whether these may be a filter that stands alone, by their count.
-fn has_filter_count(words: &[LineWord<'_>]) -> bool
-    ensures { result ≡ has_filter_count words.now }
+/// Whether these may be a filter of the named subset that stands alone, by their count.
+fn named_filter_count(words: &[LineWord<'_>]) -> bool
+    ensures { result ≡ named_filter_count words.now }
 {
     if is_expression(words) {
         words.len() == 1
@@ -125,9 +128,9 @@ fn has_filter_count(words: &[LineWord<'_>]) -> bool
     }
 }
 
-/// Whether these may be a filter and parts behind it, by their count.
-fn has_search_count(words: &[LineWord<'_>]) -> bool
-    ensures { result ≡ has_search_count words.now }
+/// Whether these may be a filter of the named subset and parts behind it, by their count.
+fn named_search_count(words: &[LineWord<'_>]) -> bool
+    ensures { result ≡ named_search_count words.now }
 {
     if is_expression(words) {
         words.len() % 2 != 0
@@ -160,16 +163,127 @@ fn pairs_length(adds: bool, words: &[LineWord<'_>]) -> usize
     passed
 }
 
-/// How many words the filter has.
-fn filter_length(adds: bool, words: &[LineWord<'_>]) -> usize
-    requires { IsTrue (has_search_count words.now) }
-    ensures value { result ≡ filter_length adds words.now }
+/// Whether the word ends a filter: nothing does where nothing stands behind it.
+fn ends_filter(parts: Option<bool>, word: &[u8]) -> bool
+    ensures { result ≡ ends_filter parts word.now }
+{
+    match parts {
+        None => false,
+        Some(adds) => begins_part(adds, word),
+    }
+}
+
+/// How many words a pair of this tag has with what stands behind it; none where the tag ends the filter or has no value.
+fn pair_length(parts: Option<bool>, tag: &[u8], behind: &[LineWord<'_>]) -> usize
+    ensures value { result ≡ pair_length parts tag.now behind.now }
+    ensures bound { result ≤ length behind.now + 1 }
+{
+    match behind {
+        [] => 0,
+        [_, ..] => { if ends_filter(parts, tag) { 0 } else { 2 } }
+    }
+}
+
+/// How many words the expression or the pair in front has; none where it ends the filter or has no value.
+fn next_length(parts: Option<bool>, words: &[LineWord<'_>]) -> usize
+    ensures value { result ≡ next_length parts words.now }
+    ensures bound { result ≤ length words.now }
+{
+    match words {
+        [] => 0,
+        [word, behind @ ..] => {
+            if begins_expression(word.bytes()) {
+                1
+            } else {
+                pair_length(parts, word.bytes(), behind)
+            }
+        }
+    }
+}
+
+/// How many words expressions and pairs in any order have, up to a word that ends a filter or a tag without a value.
+fn mixed_length(parts: Option<bool>, words: &[LineWord<'_>]) -> usize
+    ensures value { result ≡ mixed_length parts words.now }
+    ensures bound { result ≤ length words.now }
+{
+    let mut passed = 0;
+    'mixed: while passed < words.len() {
+        let next = next_length(parts, &words[passed..]);
+        if next == 0 {
+            return passed;
+        }
+        passed += next;
+    }
+    passed
+}
+
+/// How many words the expression or the pair in front has.
+fn first_length(words: &[LineWord<'_>]) -> usize
+    ensures { result ≡ first_length words.now }
+{
+    if is_expression(words) { 1 } else { 2 }
+}
+
+/// Whether an expression or a pair stands in front.
+fn is_begun(words: &[LineWord<'_>]) -> bool
+    ensures value { result ≡ is_begun words.now }
+    ensures within { IsTrue result → first_length words.now ≤ length words.now }
+{
+    is_expression(words) || words.len() >= 2
+}
+
+/// How many words the filter has in the named subset.
+fn named_length(adds: bool, words: &[LineWord<'_>]) -> usize
+    requires { IsTrue (named_search_count words.now) }
+    ensures value { result ≡ filter_length Named adds words.now }
     ensures bound { result ≤ length words.now }
 {
     if is_expression(words) {
         1
     } else {
         2 + pairs_length(adds, &words[2..])
+    }
+}
+
+/// How many words the filter has in the wide profile.
+fn wide_length(adds: bool, words: &[LineWord<'_>]) -> usize
+    requires { first_length words.now ≤ length words.now }
+    ensures value { result ≡ filter_length Wide adds words.now }
+    ensures bound { result ≤ length words.now }
+{
+    let first = first_length(words);
+    first + mixed_length(Some(adds), &words[first..])
+}
+
+/// How many words the filter has.
+fn filter_length(profile: Profile, adds: bool, words: &[LineWord<'_>]) -> usize
+    requires { IsTrue (has_search_count profile adds words.now) }
+    ensures value { result ≡ filter_length profile adds words.now }
+    ensures bound { result ≤ length words.now }
+{
+    match profile {
+        Profile::Named => named_length(adds, words),
+        Profile::Wide => wide_length(adds, words),
+    }
+}
+
+/// Whether these may be a filter that stands alone, by their count.
+fn has_filter_count(profile: Profile, words: &[LineWord<'_>]) -> bool
+    ensures { result ≡ has_filter_count profile words.now }
+{
+    match profile {
+        Profile::Named => named_filter_count(words),
+        Profile::Wide => is_begun(words) && mixed_length(None, words) == words.len(),
+    }
+}
+
+/// Whether these may be a filter and parts behind it, by their count.
+fn has_search_count(profile: Profile, adds: bool, words: &[LineWord<'_>]) -> bool
+    ensures { result ≡ has_search_count profile adds words.now }
+{
+    match profile {
+        Profile::Named => named_search_count(words),
+        Profile::Wide => { is_begun(words) && words[wide_length(adds, words)..].len() % 2 == 0 }
     }
 }
 
@@ -266,10 +380,10 @@ fn search_parts<'w, 'a>(
     case: Case,
     words: &'w [LineWord<'a>],
 ) -> Result<(Search, &'w [LineWord<'a>]), Stop>
-    requires { IsTrue (has_search_count words.now) }
+    requires { IsTrue (has_search_count profile adds words.now) }
     ensures { ReadsAs (λ x. (x.0, x.1.now)) result (search_parts profile adds case words.now) }
 {
-    let (of_filter, behind) = words.split_at(filter_length(adds, words));
+    let (of_filter, behind) = words.split_at(filter_length(profile, adds, words));
     let filter = filter_argument(alloc, profile, of_filter)?;
     let (sort, behind) = sort_part(alloc, profile, behind)?;
     let (window, behind) = window_part(words.len(), behind)?;
@@ -291,7 +405,7 @@ fn find<'w>(
 ) -> Result<FindingCommand<'w>, Stop>
     ensures { Reads result (find_of profile case words.now) }
 {
-    if !has_search_count(words) {
+    if !has_search_count(profile, false, words) {
         return Err(Stop::Refused(CommandRefusal::WrongCount));
     }
     let (search, behind) = search_parts(alloc, profile, false, case, words)?;
@@ -308,7 +422,7 @@ fn find_add<'w>(
 ) -> Result<FindingCommand<'w>, Stop>
     ensures { Reads result (find_add_of profile case words.now) }
 {
-    if !has_search_count(words) {
+    if !has_search_count(profile, true, words) {
         return Err(Stop::Refused(CommandRefusal::WrongCount));
     }
     let (search, behind) = search_parts(alloc, profile, true, case, words)?;
@@ -322,7 +436,7 @@ fn find_add<'w>(
 fn filter_alone(alloc: Global, profile: Profile, words: &[LineWord<'_>]) -> Result<Filter, Stop>
     ensures { Reads result (filter_alone profile words.now) }
 {
-    if !has_filter_count(words) {
+    if !has_filter_count(profile, words) {
         return Err(Stop::Refused(CommandRefusal::WrongCount));
     }
     filter_argument(alloc, profile, words)
@@ -339,7 +453,7 @@ fn add_to_playlist<'w>(
     match words {
         [] => Err(Stop::Refused(CommandRefusal::WrongCount)),
         [name, words @ ..] => {
-            if !has_filter_count(words) {
+            if !has_filter_count(profile, words) {
                 return Err(Stop::Refused(CommandRefusal::WrongCount));
             }
             let name = playlist_name(name.bytes())?;
@@ -534,7 +648,7 @@ fn values<'w>(
         let tag = tag_argument(alloc, profile, name)?;
         return Ok(FindingCommand::ListTag(tag, None));
     }
-    if !has_filter_count(words) {
+    if !has_filter_count(profile, words) {
         return Err(Stop::Refused(CommandRefusal::WrongCount));
     }
     let tag = tag_argument(alloc, profile, name)?;

@@ -1,7 +1,9 @@
 // Reads the commands of the queue.
 ghost use Rattle.std.specs.Prelude.{◌≡◌, true, Err};
-ghost use Rattle.command_text.specs.Queue.{queue_of, keeps_many, added, two_numbers, changes_since, shown_id, shown_range, move_of, move_id_of};
-ghost use Rattle.command_text.specs.Queue.{priority_of, priority_id_of};
+ghost use Rattle.command_text.specs.Queue.{queue_of, keeps_many, added, two_numbers, changes_since, shown_id, shown_range, move_of};
+ghost use Rattle.command_text.specs.Queue.{move_id_of};
+ghost use Rattle.command_text.specs.Queue.{priority_of, priority_id_of, shuffled_range};
+ghost use Rattle.std.specs.Option.{option_map};
 ghost use Rattle.command_text.specs.Arguments.{number_to};
 ghost use Rattle.command_text.specs.Stops.{Reads};
 ghost use Rattle.command_text.specs.declared.stop.Stop.TheVariants as stops;
@@ -19,6 +21,7 @@ use crate::text::Text;
 use crate::topic::QueueName;
 use filter_expr::LineWord;
 use play_queue::Target;
+use profile::Profile;
 use std::alloc::Global;
 
 /// A command of the queue. A URI may be any text; a position counts from 0.
@@ -52,10 +55,11 @@ pub enum QueueCommand<'w> {
 #[tactic(auto, unfolding(crate::specs::Queue::queue_of))]
 pub(crate) fn read<'w>(
     alloc: Global,
+    profile: Profile,
     name: QueueName,
     words: &'w [LineWord<'_>],
 ) -> Result<QueueCommand<'w>, Stop>
-    ensures exact { Reads result (queue_of name words.now) }
+    ensures exact { Reads result (queue_of profile name words.now) }
     ensures memory { result ≡ Err stops.NoMemory → keeps_many name ≡ true }
 {
     match name {
@@ -85,7 +89,9 @@ pub(crate) fn read<'w>(
         QueueName::QueueFiles => Ok(no_argument(QueueCommand::Files, words)?),
         QueueName::QueueId => Ok(QueueCommand::InfoId(shown_id(words)?)),
         QueueName::QueueInfo => Ok(QueueCommand::Info(shown_range(words)?)),
-        QueueName::Shuffle => Ok(QueueCommand::Shuffle(optional_range(1, optional(words)?)?)),
+        QueueName::Shuffle => {
+            Ok(QueueCommand::Shuffle(shuffled_range(profile, optional(words)?)?))
+        }
         QueueName::Swap => {
             let (first, second) = two_numbers(words)?;
             Ok(QueueCommand::Swap(first, second))
@@ -133,6 +139,19 @@ fn shown_range(words: &[LineWord<'_>]) -> Result<Option<PositionRange>, CommandR
     ensures { result ≡ shown_range words.now }
 {
     optional_range(1, unless_minus_one(optional(words)?))
+}
+
+/// To the wide profile `-1` is all there.
+fn shuffled_range(
+    profile: Profile,
+    word: Option<&[u8]>,
+) -> Result<Option<PositionRange>, CommandRefusal>
+    ensures { result ≡ shuffled_range profile (option_map (λ word. word.now) word.entry) }
+{
+    match profile {
+        Profile::Named => optional_range(1, word),
+        Profile::Wide => optional_range(1, unless_minus_one(word)),
+    }
 }
 
 #[tactic(auto, unfolding(crate::specs::Queue::move_of))]

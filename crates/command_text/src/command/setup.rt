@@ -36,15 +36,14 @@ fn count_of(name: SetupName) -> usize
     ensures { result ≡ setup_count name }
 {
     match name {
-        SetupName::Channels
-        | SetupName::Decoders
+        SetupName::Decoders
         | SetupName::ListMounts
         | SetupName::ListNeighbors
         | SetupName::ListPartitions
         | SetupName::Outputs
         | SetupName::ReplayGainStatus
         | SetupName::UrlHandlers => 0,
-        SetupName::AlbumArt | SetupName::ReadPicture | SetupName::SendMessage => 2,
+        SetupName::AlbumArt | SetupName::ReadPicture => 2,
         SetupName::SetOutput => 3,
         _ => 1,
     }
@@ -67,7 +66,6 @@ fn read_first(name: SetupName, word: &[u8]) -> Result<SetupCommand, CommandRefus
     match name {
         SetupName::AlbumArt => Err(CommandRefusal::Setup(SetupRefusal::NoPicture)),
         SetupName::BinaryLimit => Ok(SetupCommand::Nothing),
-        SetupName::Channels => Ok(SetupCommand::Nothing),
         SetupName::Crossfade => if_so(is_zero(word), SetupRefusal::NoCrossfade),
         SetupName::Decoders => Ok(SetupCommand::Decoders),
         SetupName::DisableOutput => of_output(word, SetupRefusal::AlwaysOn),
@@ -88,7 +86,6 @@ fn read_first(name: SetupName, word: &[u8]) -> Result<SetupCommand, CommandRefus
             SetupRefusal::UnrecognizedGain,
         ),
         SetupName::ReplayGainStatus => Ok(SetupCommand::ReplayGain),
-        SetupName::SendMessage => Err(CommandRefusal::Setup(SetupRefusal::NobodySubscribed)),
         SetupName::ToggleOutput => of_output(word, SetupRefusal::AlwaysOn),
         SetupName::UrlHandlers => Ok(SetupCommand::Nothing),
     }

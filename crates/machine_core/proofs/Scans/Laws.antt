@@ -54,6 +54,8 @@ event_told m n before ops stuck is no_list lists place stickers =
       mixer = not (m.saved.volume == n.saved.volume);
       options = not (same_options m.saved.options n.saved.options);
       sticker = stickers i;
+      subscription = false;
+      message = false;
     })
   where
     same_place : option_eq bytes_eq m.job.place n.job.place ≡ true

@@ -5,29 +5,29 @@ use Rattle.daemon_core.proofs.request.run_command.Goals as goal
 
 pub returns-in-Ok-clause-ran : goal.returns-in-Ok-clause-ran
 returns-in-Ok-clause-ran c =
-    went_on c.args.command (separator c.args.separated) c.args.machine.now c.perform.new.self c.args.work.now c.perform.new.work
-    c.separate.new.work c.args.looks.now c.args.tags c.in-Ok.changed c.in-Ok.ensures.performs
-    (sym c.in-None.ensures) c.separate.ensures.text
+    went_on c.args.client (spent_of c.args.work.now.size c.args.looks.now c.args.tags c.args.talks.now.messages) c.args.command
+    (separator c.args.separated) c.args.machine.now c.perform.new.machine c.args.talks.now c.perform.new.talks c.args.work.now
+    c.perform.new.work c.separate.new.work c.in-Ok.changed c.in-Ok.ensures.ran (sym c.in-None.ensures) c.separate.ensures.text
     c.separate.ensures.room
-    c.in-Ok.ensures.changed
 
 pub returns-in-Err-Refused-clause-ran : goal.returns-in-Err-Refused-clause-ran
 returns-in-Err-Refused-clause-ran c =
-    let failed = rw c.in-Err-Refused.field-0-is at c.in-Err-Refused.ensures.performs in
+    let failed = rw c.in-Err-Refused.field-0-is at c.in-Err-Refused.ensures.ran in
     record {
-      stands = failed.state;
+      stands = failed.stands;
+      same = failed.same;
       nothing = failed.nothing;
-      why = performed_refuses (spent_of c.args.work.now.size c.args.looks.now c.args.tags) c.args.command c.args.machine.now _
-          (sym c.in-None.ensures)
-          failed.refusal;
+      why = performed_refuses c.args.client (spent_of c.args.work.now.size c.args.looks.now c.args.tags c.args.talks.now.messages)
+          c.args.command c.args.machine.now _ (sym c.in-None.ensures) failed.refusal;
     }
 
 pub returns-in-Some-clause-ran : goal.returns-in-Some-clause-ran
 returns-in-Some-clause-ran c = record {
   stands = refl;
+  same = record { messages = refl; notified = refl };
   nothing = record { text = refl; room = omega arith; ops = refl; size = refl };
-  why = performed_ends (spent_of c.args.work.now.size c.args.looks.now c.args.tags) c.args.command c.args.machine.now c.in-Some.ending
-      (sym c.in-Some.ensures);
+  why = performed_ends c.args.client (spent_of c.args.work.now.size c.args.looks.now c.args.tags c.args.talks.now.messages) c.args.command
+      c.args.machine.now c.in-Some.ending (sym c.in-Some.ensures);
 }
 
 pub returns-in-Some-clause-looks : goal.returns-in-Some-clause-looks

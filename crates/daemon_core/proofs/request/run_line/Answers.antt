@@ -10,8 +10,9 @@ use Rattle.daemon_core.proofs.request.run_line.Goals as goal
 pub returns-in-Err-clause-runs : goal.returns-in-Err-clause-runs
 returns-in-Err-clause-runs c = record {
   stands = refl;
+  same = record { messages = refl; notified = refl };
   nothing = c.make_room.ensures.nothing;
-  why = words_stop c.args.place (spent_of c.args.work.now.size c.args.looks.now c.args.tags.now) c.args.line.now c.args.machine.now
+  why = words_stop c.args.client c.args.place (spent_of c.args.work.now.size c.args.looks.now c.args.tags.now c.args.talks.now.messages) c.args.line.now c.args.machine.now
       c.in-Err.error
       c.stop_of_reading.result
       c.in-Err.ensures.exact c.stop_of_reading.ensures;
@@ -28,8 +29,9 @@ returns-clause-runs c =
     c.profile-profile.ensures ∙ ap (λ (s : SavedState). s.profile) c.saved.ensures in
     record {
       stands = refl;
+      same = record { messages = refl; notified = refl };
       nothing = c.make_room.ensures.nothing;
-      why = command_stop c.args.place (spent_of c.args.work.now.size c.args.looks.now c.args.tags.now) c.args.line.now c.in-Ok.words.items
+      why = command_stop c.args.client c.args.place (spent_of c.args.work.now.size c.args.looks.now c.args.tags.now c.args.talks.now.messages) c.args.line.now c.in-Ok.words.items
           c.as_slice.result.now c.args.machine.now c.in-Err-read.error c.stop_of_reading-in-Err-read.result c.in-Ok.ensures.exact
           c.as_slice.ensures.value (read_under c.args.place c.as_slice.result.now (Err c.in-Err-read.error) same
           c.in-Err-read.ensures.exact) c.stop_of_reading-in-Err-read.ensures;
@@ -48,8 +50,8 @@ pub returns-in-Ok-read-clause-runs : goal.returns-in-Ok-read-clause-runs
 returns-in-Ok-read-clause-runs c =
     let same : c.profile-profile.result ≡ c.args.machine.now.saved.profile =
     c.profile-profile.ensures ∙ ap (λ (s : SavedState). s.profile) c.saved.ensures in
-    line_runs c.args.place (separator c.args.separated) c.args.line.now c.in-Ok.words.items c.as_slice.result.now c.in-Ok-read.command
-    c.args.machine.now c.run_command.new.machine c.args.work.now c.make_room.new.self c.run_command.new.work
+    line_runs c.args.client c.args.place (separator c.args.separated) c.args.line.now c.in-Ok.words.items c.as_slice.result.now c.in-Ok-read.command
+    c.args.machine.now c.run_command.new.machine c.args.talks.now c.run_command.new.talks c.args.work.now c.make_room.new.self c.run_command.new.work
     c.args.looks.now c.args.tags.now c.run_command.result c.in-Ok.ensures.exact c.as_slice.ensures.value
     (read_under c.args.place c.as_slice.result.now (Ok c.in-Ok-read.command) same c.in-Ok-read.ensures.exact)
     c.make_room.ensures.nothing

@@ -7,29 +7,29 @@ use Rattle.daemon_core.proofs.request.run_lines.Goals as goal
 
 pub loop-line-init : goal.loop-line-init
 loop-line-init c =
-    subst (λ looks. SoFar c.args.place (separator c.args.separated) c.args.lines c.args.lines 0 c.args.machine.now
-    c.args.machine.now c.args.work.now c.args.work.now looks c.args.tags c.args.tags c.none-changed.result) (sym c.new-looks.ensures)
-    (subst (SoFar c.args.place (separator c.args.separated) c.args.lines c.args.lines 0 c.args.machine.now c.args.machine.now
-    c.args.work.now c.args.work.now 0 c.args.tags c.args.tags) (sym c.none-changed.ensures)
-    (so_far_begins c.args.place (separator c.args.separated) c.args.lines c.args.machine.now c.args.work.now c.args.tags c.requires.room))
+    subst (λ looks. SoFar c.args.client c.args.place (separator c.args.separated) c.args.lines c.args.lines 0 c.args.machine.now
+    c.args.machine.now c.args.talks.now c.args.talks.now c.args.work.now c.args.work.now looks c.args.tags c.args.tags c.none-changed.result) (sym c.new-looks.ensures)
+    (subst (SoFar c.args.client c.args.place (separator c.args.separated) c.args.lines c.args.lines 0 c.args.machine.now c.args.machine.now
+    c.args.talks.now c.args.talks.now c.args.work.now c.args.work.now 0 c.args.tags c.args.tags) (sym c.none-changed.ensures)
+    (so_far_begins c.args.client c.args.place (separator c.args.separated) c.args.lines c.args.machine.now c.args.talks.now c.args.work.now c.args.tags c.requires.room))
 
 pub loop-line-preserved : goal.loop-line-preserved
 loop-line-preserved c =
-    subst (SoFar c.args.place (separator c.args.separated) c.args.lines c.in-Some.after _ c.args.machine.now
-    c.run_line.new.machine c.args.work.now c.run_line.new.work c.run_line.new.looks c.args.tags c.run_line.new.tags)
+    subst (SoFar c.args.client c.args.place (separator c.args.separated) c.args.lines c.in-Some.after _ c.args.machine.now
+    c.run_line.new.machine c.args.talks.now c.run_line.new.talks c.args.work.now c.run_line.new.work c.run_line.new.looks c.args.tags c.run_line.new.tags)
     (sym c.union-changed.ensures)
-    (ran_goes c.args.place (separator c.args.separated) c.args.lines c.loop-line.rest c.in-Some.after
+    (ran_goes c.args.client c.args.place (separator c.args.separated) c.args.lines c.loop-line.rest c.in-Some.after
     c.in-Some.line.now c.loop-line.index c.args.machine.now c.loop-line.machine
-    c.run_line.new.machine c.args.work.now c.loop-line.work c.run_line.new.work c.loop-line.looks c.run_line.new.looks
+    c.run_line.new.machine c.args.talks.now c.loop-line.talks c.run_line.new.talks c.args.work.now c.loop-line.work c.run_line.new.work c.loop-line.looks c.run_line.new.looks
     c.args.tags c.loop-line.tags c.run_line.new.tags c.loop-line.changed c.in-Ok.set c.in-Some.ensures.first c.loop-line.invariant
     c.in-Ok.ensures.runs c.in-Ok.ensures.looks c.in-Ok.ensures.tags)
 
 pub returns-in-Err : goal.returns-in-Err
 returns-in-Err c =
     let profile = c.profile-profile.ensures ∙ ap (λ (s : SavedState). s.profile) c.saved.ensures in
-    ran_stops c.args.place (separator c.args.separated) c.args.lines c.loop-line.rest c.in-Some.after
+    ran_stops c.args.client c.args.place (separator c.args.separated) c.args.lines c.loop-line.rest c.in-Some.after
     c.in-Some.line.now c.loop-line.index c.args.machine.now c.loop-line.machine
-    c.run_line.new.machine c.args.work.now c.loop-line.work c.run_line.new.work c.answer_stop-ending.new.work c.loop-line.looks
+    c.run_line.new.machine c.args.talks.now c.loop-line.talks c.run_line.new.talks c.args.work.now c.loop-line.work c.run_line.new.work c.answer_stop-ending.new.work c.loop-line.looks
     c.run_line.new.looks c.looks_at_end-looks.result
     c.args.tags c.loop-line.tags c.run_line.new.tags c.tags_at_end-tags.result
     c.loop-line.changed c.in-Err.stop c.answer_stop-ending.result.1 c.answer_stop-ending.result.0 c.in-Some.ensures.first
@@ -40,8 +40,8 @@ returns-in-Err c =
 
 pub returns : goal.returns
 returns c =
-    ran_all c.args.place (separator c.args.separated) c.args.lines c.loop-line.rest c.loop-line.index c.args.machine.now
-    c.loop-line.machine c.args.work.now c.loop-line.work c.end.new.self c.loop-line.looks c.taken.result c.args.tags c.loop-line.tags
+    ran_all c.args.client c.args.place (separator c.args.separated) c.args.lines c.loop-line.rest c.loop-line.index c.args.machine.now
+    c.loop-line.machine c.args.talks.now c.loop-line.talks c.args.work.now c.loop-line.work c.end.new.self c.loop-line.looks c.taken.result c.args.tags c.loop-line.tags
     c.loop-line.changed
     (c.in_default.ensures.none refl)
     c.loop-line.invariant c.taken.ensures c.end.ensures

@@ -5,7 +5,7 @@ use Rattle.daemon_core.proofs.request.run_lines.Given as goal
 
 abbrev pub invariant-loop-line : goal.invariant-loop-line
 invariant-loop-line l =
-    SoFar l.place (separator l.separated) l.fn.lines l.rest l.index l.fn.machine l.machine l.fn.work l.work l.looks l.fn.tags l.tags
+    SoFar l.client l.place (separator l.separated) l.fn.lines l.rest l.index l.fn.machine l.machine l.fn.talks l.talks l.fn.work l.work l.looks l.fn.tags l.tags
     l.changed
 
 abbrev pub decreases-loop-line : goal.decreases-loop-line

@@ -10,5 +10,5 @@ returns-in_default c =
     let song = song_of c.args.row.now in
     let some = some_value value c.text.result.now c.is_empty.result c.text.ensures c.is_empty.ensures c.if-is_empty.false in
     (rw (c.text-in_default.ensures, c.told.ensures, c.tags-tags.ensures) at c.one_is_like.ensures)
-    ∙ sym (passes_some Exact c.args.comparison value (texts_for c.args.subject song) some
+    ∙ sym (passes_some Exact c.args.subject c.args.comparison value (texts_for c.args.subject song) some
     ∙ looked_at Exact c.args.subject c.args.comparison value song c.in_default.not-File)

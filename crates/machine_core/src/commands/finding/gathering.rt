@@ -64,14 +64,6 @@ fn push_row<'a>(
     Ok(())
 }
 
-// Where more than one of so many songs may match, the kept order is walked, and each song asked.
-const FEW: usize = 16;
-
-// Whether few songs are asked, since their value is looked up.
-fn are_few(songs: &SongDb, case: Case, filter: &Filter) -> bool {
-    filter.candidates(songs, case) < songs.len() / FEW
-}
-
 // The rows that match, as they are told under the wide profile.
 fn told_matching<'a>(
     alloc: Global,
@@ -82,7 +74,7 @@ fn told_matching<'a>(
     ensures found { IfOk result (λ found. map (λ row. row.now) found.items ≡ matching case filter.now (told_order songs.now)) }
     ensures few { IfOk result (λ found. length found.items ≤ length songs.now) }
 {
-    if are_few(songs, case, filter) {
+    if filter.are_few(songs, case) {
         return few_told(alloc, songs, case, filter);
     }
     matching_among(alloc, songs.told_rows(), case, filter)

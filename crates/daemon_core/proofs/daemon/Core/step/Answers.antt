@@ -3,6 +3,7 @@ use Rattle.daemon_core.specs.Handled.{Does}
 use Rattle.daemon_core.specs.Reported.{IsReported}
 use Rattle.daemon_core.specs.State.{State}
 use Rattle.daemon_core.specs.Step.{acted}
+use Rattle.daemon_core.specs.declared.talk.Talks.{Talks}
 use Rattle.daemon_core.proofs.StepLaws.{is_outcome, rebuilt_by, fits_by}
 use Rattle.daemon_core.proofs.daemon.Core.step.Goals as goal
 
@@ -12,9 +13,15 @@ returns-clause-ok c =
     is_outcome c.args.self.now c.args.event c.handle.new.self c.tell_waiting.new.self c.in_ok-outcome.field-0
     c.tell_waiting.result
     (subst (λ s. Does (acted s c.args.event c.in_ok-outcome.field-0.outcome.refused_at) c.handle.new.self c.in_ok-outcome.field-0)
-    ((λ i. record { machine = taken.machine i; clients = taken.watch i; masks = (let m = taken.masks i in m.list.items) })
+    ((λ i. record {
+      machine = taken.machine i;
+      clients = taken.watch i;
+      masks = (let m = taken.masks i in m.list.items);
+      messages = (c.begin.ensures.messages ∙ ap (λ (t : Talks). t.messages) taken.talks) i;
+    })
     ∙ c.self.view_is) c.in_ok-outcome.ensures.ok)
     c.tell_waiting.ensures.outputs c.tell_waiting.ensures.watch c.tell_waiting.ensures.machine c.tell_waiting.ensures.masks
+    c.tell_waiting.ensures.talks
     c.in_ok-outcome.ensures.place
 
 pub returns-clause-rebuilt : goal.returns-clause-rebuilt

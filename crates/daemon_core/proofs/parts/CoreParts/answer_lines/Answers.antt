@@ -9,10 +9,11 @@ use Rattle.daemon_core.proofs.parts.CoreParts.answer_lines.Goals as goal
 pub returns-clause-ok : goal.returns-clause-ok
 returns-clause-ok c =
     lines_do c.args.client c.args.place (separator c.args.separated) c.args.lines c.args.self.now
-    (record c.args.self.now { machine = c.run_lines-end.new.machine; masks = c.make_room.new.self })
+    (record c.args.self.now { machine = c.run_lines-end.new.machine; masks = c.make_room.new.self; talks = c.run_lines-end.new.talks })
     c.end_request.new.self c.in_ok-work.work c.run_lines-end.new.work c.seen_by-tags.result c.run_lines-end.result c.end_request.result
     c.in_ok-work.ensures.text c.in_ok-work.ensures.ops
     (c.in_ok-work.ensures.size ∙ ap checksum_len (c.profile-profile.ensures ∙ ap (λ (s : SavedState). s.profile) c.saved.ensures))
+    c.requires.fresh
     c.run_lines-end.ensures
     refl c.make_room.ensures.same
     (c.seen_by-tags.ensures ∙ ap (λ masks. tags_seen masks c.args.client) c.make_room.ensures.same) c.end_request.ensures
@@ -20,6 +21,7 @@ returns-clause-ok c =
 pub returns-clause-place : goal.returns-clause-place
 returns-clause-place c =
     lines_place c.args.client c.args.place (separator c.args.separated) c.args.lines c.args.self.now.machine
-    c.run_lines-end.new.machine (record c.args.self.now { machine = c.run_lines-end.new.machine; masks = c.make_room.new.self })
+    c.run_lines-end.new.machine c.args.self.now.talks
+    (record c.args.self.now { machine = c.run_lines-end.new.machine; masks = c.make_room.new.self; talks = c.run_lines-end.new.talks })
     c.end_request.new.self c.in_ok-work.work c.run_lines-end.new.work c.seen_by-tags.result
     c.run_lines-end.result c.end_request.result c.run_lines-end.ensures c.end_request.ensures

@@ -1,4 +1,5 @@
-use Rattle.std.proofs.Common.{◌≡◌, ℕ, ◌+◌, length, List, [], ◌∷◌, Option, None, refl, sym, ◌∙◌, subst, arith}
+use Rattle.std.proofs.Common.{◌≡◌, ℕ, ◌+◌, length, List, [], ◌∷◌, Option, None, refl, sym, ap, ◌∙◌, subst, arith}
+use Rattle.std.specs.Global.{Vec}
 use Rattle.idle_masks.specs.Watched.{watched, joined}
 use Rattle.idle_masks.specs.declared.watch.Watched.{Watched}
 use Rattle.daemon_core.specs.Handled.{Does, IsNothingBut}
@@ -14,7 +15,13 @@ use Rattle.daemon_core.proofs.parts.CoreParts.connect.Goals as goal
 pub returns-clause-ok : goal.returns-clause-ok
 returns-clause-ok c =
     let p : CoreParts = c.args.self.now in
-    let q : CoreParts = record { machine = p.machine; watch = c.join.new.self; masks = c.forget.new.self; room = c.take.new.self } in
+    let q : CoreParts = record {
+      machine = p.machine;
+      watch = c.join.new.self;
+      masks = c.forget.new.self;
+      talks = c.forget-2.new.self;
+      room = c.take.new.self;
+    } in
     let h = c.in_ok-handled.handled in
     let but = subst (λ (b : List ℕ). IsNothingBut (output c.args.client b ∷ []) [] h) c.in_ok-greeting.ensures c.in_ok-handled.ensures in
     let absent : watched p.watch c.args.client ≡ None = sym c.get.ensures ∙ none_is c.get.result (sym c.if-is_some.ensures) in
@@ -28,7 +35,7 @@ returns-clause-ok c =
     (does_but (connects_client c.args.client (state_of p) None) q h but (λ i. record {
       machine = p.machine;
       clients = watch i;
-      masks =
-          c.forget.ensures.items i;
+      masks = c.forget.ensures.items i;
+      messages = c.forget-2.ensures.messages i;
     })
-    refl refl refl refl refl (joined_ready p q c.args.client c.take.new.self fits watch refl))
+    refl refl refl refl refl (ap (λ (v : Vec ℕ). v.items) c.forget-2.ensures.notified ∙ c.requires.fresh) (joined_ready p q c.args.client c.take.new.self fits watch refl))

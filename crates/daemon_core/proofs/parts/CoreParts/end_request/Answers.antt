@@ -1,4 +1,5 @@
-use Rattle.std.proofs.Common.{rules, refl}
+use Rattle.std.proofs.Common.{ℕ, rules, refl, ap}
+use Rattle.std.specs.Global.{Vec}
 use Rattle.daemon_core.specs.declared.outcome.Ending.TheVariants.{Answered, Closed}
 use Rattle.daemon_core.proofs.EndLaws.{ends_so, ready_left}
 use Rattle.daemon_core.proofs.parts.CoreParts.end_request.Goals as goal
@@ -6,7 +7,12 @@ use Rattle.daemon_core.proofs.parts.CoreParts.end_request.Goals as goal
 pub returns-in-Answered : goal.returns-in-Answered
 returns-in-Answered c = ends_so c.args.client c.args.self.now (record c.args.self.now { masks = c.set.new.self }) c.args.work c.args.end _
     Answered c.in-Answered.is (record {
-      state = λ i. record { machine = c.args.self.now.machine; clients = c.args.self.now.watch; masks = c.set.ensures i };
+      state = λ i. record {
+        machine = c.args.self.now.machine;
+        clients = c.args.self.now.watch;
+        masks = c.set.ensures i;
+        messages = c.args.self.now.talks.messages;
+      };
       answer = search rules;
       closes = search rules;
       ops = refl;
@@ -14,6 +20,7 @@ returns-in-Answered c = ends_so c.args.client c.args.self.now (record c.args.sel
       looks = refl;
       ended = refl;
       changed = refl;
+      notified = refl;
       one = search rules;
       ready = c.requires.ready;
     })
@@ -28,6 +35,7 @@ returns-in-Closed c = ends_so c.args.client c.args.self.now c.leave.new.self c.a
   looks = refl;
   ended = refl;
   changed = refl;
+  notified = ap (λ (v : Vec ℕ). v.items) c.leave.ensures.notified;
   one = search rules;
   ready = ready_left c.args.self.now c.leave.new.self c.args.client c.requires.ready c.leave.ensures.watch (search rules);
 })

@@ -1,7 +1,7 @@
 use Rattle.std.proofs.Common.{is_ok, sym, ap, ◌∙◌}
 use Rattle.std.proofs.lemmas.Bool.{false≢true}
 use Rattle.daemon_core.proofs.RoomLaws.{left_so}
-use Rattle.daemon_core.proofs.SeenLaws.{masks_left, masks_stay}
+use Rattle.daemon_core.proofs.SeenLaws.{masks_left, masks_stay, messages_left, messages_stay}
 use Rattle.daemon_core.proofs.parts.CoreParts.leave.Goals as goal
 
 pub returns-in-Err-clause-watch : goal.returns-in-Err-clause-watch
@@ -16,4 +16,14 @@ returns-in-Ok-clause-masks c =
 pub returns-in-Err-clause-masks : goal.returns-in-Err-clause-masks
 returns-in-Err-clause-masks c =
     sym (masks_stay _ c.args.self.now.masks.list.items c.args.client
+    (λ some. false≢true (sym (ap is_ok c.in-Err.is) ∙ c.leave.ensures.found.1 some)))
+
+pub returns-in-Ok-clause-messages : goal.returns-in-Ok-clause-messages
+returns-in-Ok-clause-messages c =
+    c.forget-in-Ok.ensures.messages
+    ∙ sym (messages_left _ c.args.self.now.talks.messages c.args.client (c.leave.ensures.found.0 (ap is_ok c.in-Ok.is)))
+
+pub returns-in-Err-clause-messages : goal.returns-in-Err-clause-messages
+returns-in-Err-clause-messages c =
+    sym (messages_stay _ c.args.self.now.talks.messages c.args.client
     (λ some. false≢true (sym (ap is_ok c.in-Err.is) ∙ c.leave.ensures.found.1 some)))

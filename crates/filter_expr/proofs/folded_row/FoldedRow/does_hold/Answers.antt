@@ -19,6 +19,6 @@ returns-in_default-clause-member c =
     let some = some_value value c.text.result.now c.is_empty.result c.text.ensures c.is_empty.ensures c.if-is_empty.false in
     let told = c.told-told.ensures
     ∙ ap (λ (ts : List TagText). told_subject ts c.args.subject) (c.tags.ensures ∙ ap (λ (s : Song). s.tags) c.self.view_is) in
-    let same = passes_some Folded c.args.comparison value (texts_for c.args.subject song) some
+    let same = passes_some Folded c.args.subject c.args.comparison value (texts_for c.args.subject song) some
     ∙ looked_at Folded c.args.subject c.args.comparison value song c.in_default.not-File ∙ ap like (sym told) in
     subst (λ (b : Bool). IfOk c.one_is_like.result (λ passed. passed ≡ b)) (sym same) c.one_is_like.ensures.member

@@ -1,10 +1,10 @@
-use Rattle.std.proofs.Common.{rules, ◌≡◌, ◌≤◌, ℕ, List, length, false, Option, Some, None, sym, ap, subst, ◌∙◌, arith}
+use Rattle.std.proofs.Common.{rules, ◌≡◌, ◌+◌, ◌<◌, ◌≤◌, ℕ, min, List, length, false, Option, Some, None, sym, ap, subst, ◌∙◌, arith}
 use Rattle.profile.specs.declared.profile.Profile.{Profile}
 use Rattle.state_codec.specs.declared.op.Op.{Op}
 use Rattle.state_codec.specs.Layout.{written_layout}
 use Rattle.state_codec.specs.SavedState.{SavedState}
 use Rattle.live_stage.specs.Answer.{profile_of_step}
-use Rattle.live_stage.specs.Numbers.{longest_record, record_bytes}
+use Rattle.live_stage.specs.Numbers.{greatest, longest_record, next_numbers, record_bytes}
 use Rattle.live_stage.specs.Turns.{recorded_content}
 use Rattle.std.specs.List.{AllByRecursion}
 use Rattle.state_codec.specs.Ops.{IsOp}
@@ -14,7 +14,7 @@ use Rattle.daemon_core.specs.State.{State}
 use Rattle.daemon_core.specs.Step.{Stepped, step}
 use Rattle.live_stage.proofs.FoundLaws.{find_now, find_still, find_either, find_after, content_after, content_recorded}
 use Rattle.live_stage.proofs.ProfileLaws.{profile_stays, written_so}
-use Rattle.live_stage.proofs.TurnLaws.{still_in_file, no_call_made, record_short}
+use Rattle.live_stage.proofs.TurnLaws.{still_in_file, no_call_made, numbers_next, record_short}
 use Rattle.live_stage.proofs.live.Live.handle.Goals as goal
 
 pub record_ops-requires-clause-takes : goal.record_ops-requires-clause-takes
@@ -107,11 +107,13 @@ invariant_of-self-2 g c =
     )
 
 pub returns-clause-step : goal.returns-clause-step
-unfolding step
 returns-clause-step g c =
     let asked : Option ℕ → Stepped = λ k. step c.self.inside.core c.args.event k in
     let did = c.in-Ok.ensures.ok in
     let place : c.in-Ok.outcome.refused_at ≡ c.new.result.refused_at = sym (ap (λ t. t.refused_at) c.new.ensures) in
+    let ops_are : c.deref.result.now ≡ (let of_answer : Stepped = asked c.new.result.refused_at in of_answer.ops) =
+    c.deref.ensures.value ∙ c.in-Ok.ensures.ok.ops ∙ ap (λ (k : Option ℕ). let of_answer : Stepped = asked k in of_answer.ops) place in
+    let below : c.self.inside.journal.base + c.self.inside.journal.count < greatest = search rules in
     rw (← c.self.view_is) (record {
       state = did.after ∙ ap (λ (k : Option ℕ). let now : Stepped = asked k in now.after) place;
       outputs = ap (λ t. t.outputs) c.new.ensures ∙ did.outputs ∙ ap (λ (k : Option ℕ). let now : Stepped = asked k in now.outputs) place;
@@ -120,7 +122,12 @@ returns-clause-step g c =
       refused_at = ap (λ t. t.refused_at) c.new.ensures ∙ did.refused_at
           ∙ ap (λ (k : Option ℕ). let now : Stepped = asked k in now.refused_at) place;
       numbered = search rules;
-      numbers = search rules;
+      numbers = numbers_next c.self.inside.journal c.record_ops.new.journal c.self.inside.event c.deref.result.now below
+          c.record_ops.ensures.file.base (λ e. (c.record_ops.ensures.none e).1) (λ some. c.in_ok-number.ensures.number.count some)
+          ∙ ap (λ (ops : List Op). next_numbers (record {
+            event = c.self.inside.event;
+            last_record = min (c.self.inside.journal.base + c.self.inside.journal.count) greatest;
+          }) ops) ops_are;
       file = search rules;
     })
 

@@ -1,0 +1,70 @@
+-- The commands of messages from client to client.
+use Rattle.std.proofs.Common.{◌≡◌, ℕ, suc, ◌≤◌, Bool, true, false, List, [], ◌∷◌, length, Option, Some, None, Result, Ok, Err, cond}
+use Rattle.std.proofs.Common.{refl, sym, ap, subst, arith}
+use Rattle.std.specs.List.{cons_option}
+use Rattle.std.specs.Prelude.{◌&&◌, ◌==◌}
+use Rattle.client_messages.specs.Listeners.{notified, subscribed, takes}
+use Rattle.client_messages.specs.Refusal.{AnswersIfMemory, subscribe_refusal}
+use Rattle.client_messages.specs.declared.listener.Listener.{Listener}
+use Rattle.client_messages.specs.declared.message.Message.{Message}
+use Rattle.client_messages.specs.declared.refusal.MessagesError.{MessagesError}
+use Rattle.client_messages.specs.declared.refusal.MessagesError.TheVariants as errors
+use Rattle.command_text.specs.declared.command.Command.{Command}
+use Rattle.command_text.specs.declared.command.Command.TheVariants as topics
+use Rattle.command_text.specs.declared.command.messages.MessagesCommand.{MessagesCommand}
+use Rattle.command_text.specs.declared.command.messages.MessagesCommand.TheVariants as commands
+use Rattle.idle_masks.specs.Subsystems.{only}
+use Rattle.idle_masks.specs.declared.subsystem.Subsystem.TheVariants.{Subscription}
+use Rattle.machine_core.specs.declared.work.Failure.{Failure}
+use Rattle.daemon_core.specs.Talk.{Talk, refusal_of, silent, talk_of, talked, unless_refused}
+use Rattle.daemon_core.specs.Talking.{IsTalkRefusal, failure_of}
+
+-- a command of another topic
+pub no_talk : (c : ℕ) (ms : List Listener) (command : Command) → ((x : MessagesCommand) → command ≡ topics.Messages x → ⊥) →
+    talk_of c ms command ≡ None
+unfolding talk_of
+no_talk c ms (topics.Messages x) other = absurd (other x refl)
+no_talk c ms command other = refl
+
+-- a message notifies some of the listeners
+one_more : (c : ℕ) (rest : List ℕ) (notices : Bool) →
+    length (cons_option (cond notices (Some c) None) rest) ≤ suc (length rest)
+one_more c rest true = omega arith
+one_more c rest false = omega arith
+
+pub notified_fits : (ls : List Listener) (m : Message) → length (notified ls m) ≤ length ls
+notified_fits [] m = omega arith
+notified_fits (l ∷ ls) m =
+    omega (arith, one_more l.client (notified ls m) (takes m l && (length l.unread == 0)), notified_fits ls m)
+
+-- a call that failed is a command that is refused
+refused_so : (e : MessagesError) → IsTalkRefusal (Err (refusal_of e)) (failure_of e)
+refused_so errors.BadChannelName = refl
+refused_so errors.TooManyChannels = refl
+refused_so errors.AlreadySubscribed = refl
+refused_so errors.NotSubscribed = refl
+refused_so errors.NobodySubscribed = refl
+refused_so errors.NobodyHasRoom = refl
+refused_so errors.NoMemory = tt
+
+abbrev error_in : MessagesError → Result (Unit {0}) MessagesError → MessagesError
+error_in e (Ok u) = e
+error_in e (Err f) = f
+
+fails_as : (refusal : Option MessagesError) (talk : Talk) (error : MessagesError) → AnswersIfMemory {T = Unit {0}} refusal (Err error) →
+    IsTalkRefusal (unless_refused refusal talk) (failure_of error)
+fails_as None talk error is = subst (λ e. IsTalkRefusal (Ok talk) (failure_of e)) (sym is) tt
+fails_as (Some e) talk error is =
+    subst (λ x. IsTalkRefusal (Err (refusal_of e)) (failure_of x)) (sym (ap (error_in error) is)) (refused_so e)
+
+pub subscribe_fails : (c : ℕ) (ms : List Listener) (command : MessagesCommand) (channel said : List ℕ) (error : MessagesError)
+    (failure : Failure) → command ≡ commands.Subscribe channel → said ≡ channel →
+    AnswersIfMemory {T = Unit {0}} (subscribe_refusal ms c said) (Err error) → failure ≡ failure_of error →
+    IsTalkRefusal (talked c ms command) failure
+unfolding talked
+subscribe_fails c ms command channel said error failure is same answer told =
+    let talk : Talk = record (silent (subscribed ms c channel)) { changed = only Subscription } in
+    subst (λ k. IsTalkRefusal (talked c ms k) failure) (sym is)
+    (subst (IsTalkRefusal (unless_refused (subscribe_refusal ms c channel) talk)) (sym told)
+    (fails_as (subscribe_refusal ms c channel) talk error
+    (subst (λ s. AnswersIfMemory {T = Unit {0}} (subscribe_refusal ms c s) (Err error)) same answer)))

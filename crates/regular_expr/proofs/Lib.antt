@@ -1,0 +1,10 @@
+mod Bodies
+mod Chains
+mod Fitting
+mod NameSteps
+mod SetSteps
+mod Visits
+mod Reached
+mod Tracks
+mod Moving
+mod Searching

@@ -1,0 +1,10 @@
+pub mod Sets
+pub mod Places
+pub mod Shape
+pub mod Marks
+pub mod Spans
+pub mod Classes
+pub mod Counts
+pub mod Reading
+pub mod Gives
+pub mod Patterns
