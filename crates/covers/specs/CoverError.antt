@@ -1,5 +1,7 @@
 -- The numbers of the refusals, and when each comes.
 use Rattle.std.specs.Prelude.{ℕ}
+use Rattle.song_files.specs.declared.folder.FolderFault.{FolderFault}
+use Rattle.song_files.specs.declared.folder.FolderFault.TheVariants as folders
 use Rattle.covers.specs.declared.refusal.CoverError.{CoverError}
 use Rattle.covers.specs.declared.refusal.CoverError.TheVariants.{NoMemory, ReadFault}
 
@@ -11,3 +13,8 @@ number_of ReadFault = 15
 abbrev pub Fails : Type 0 → CoverError → Type 0
 Fails fault NoMemory = Unit {0}
 Fails fault ReadFault = fault
+
+-- what a fault of a folder is
+abbrev pub of_folder : FolderFault → CoverError
+of_folder folders.Source = ReadFault
+of_folder folders.NoMemory = NoMemory

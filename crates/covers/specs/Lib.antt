@@ -1,4 +1,6 @@
 pub mod AlbumNames
+pub mod Answers
+pub mod Asked
 pub mod Chunks
 pub mod CoverError
 pub mod Limits

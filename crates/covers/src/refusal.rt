@@ -1,9 +1,9 @@
 // Why a picture could not be read.
 ghost use Rattle.std.specs.Prelude.{◌≡◌};
-ghost use Rattle.covers.specs.CoverError.{number_of};
+ghost use Rattle.covers.specs.CoverError.{number_of, of_folder};
 ghost use Rattle.covers.specs.declared.refusal.CoverError.TheVariants.{NoMemory, ReadFault};
 
-use song_files::SourceFault;
+use song_files::{FolderFault, SourceFault};
 use std::alloc::{AllocError, AllocFailed};
 use thiserror::Error;
 
@@ -41,5 +41,16 @@ impl From<SourceFault> for CoverError {
 
     fn from(_: SourceFault) -> Self {
         CoverError::ReadFault
+    }
+}
+
+impl From<FolderFault> for CoverError {
+    ghost from_gives = { λ fault e. e ≡ of_folder fault };
+
+    fn from(fault: FolderFault) -> Self {
+        match fault {
+            FolderFault::Source => CoverError::ReadFault,
+            FolderFault::NoMemory => CoverError::NoMemory,
+        }
     }
 }

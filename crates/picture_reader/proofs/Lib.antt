@@ -1,0 +1,3 @@
+mod Chosen
+mod Folders
+mod KeptLists

@@ -1,0 +1,4 @@
+pub mod Kept
+pub mod Limits
+pub mod Open
+pub mod Pictures
