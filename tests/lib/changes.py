@@ -84,10 +84,13 @@ def list_editing(state, draw):
     if state.playlists:
         name = draw.choice([*state.playlists])
         count = len(state.playlists[name])
-        ways = [["playlistadd", name, draw.choice([*state.songs, "d"])]] * 2 if count < MOST_ENTRIES else []
+        at_place = [str(draw.randint(0, count))] if state.is_wide and draw.random() < 0.6 else []
+        ways = [["playlistadd", name, draw.choice([*state.songs, "d"]), *at_place]] * 2 if count < MOST_ENTRIES else []
         if count:
             text, (at, to) = a_range(count, draw), (str(draw.randrange(count)) for _ in range(2))
+            first, end = model.span(text, count)
             ways += [["playlistdelete", name, text], ["playlistclear", name], *[["playlistmove", name, at, to]] * 2]
+            ways += [["playlistmove", name, text, str(draw.randint(0, count - (end - first)))]] * 2 if state.is_wide else []
         return draw.choice(ways)
 
 
@@ -120,15 +123,20 @@ def filters(state, draw):
     return words
 
 
+def sort_and_window(draw):
+    """What may stand behind a filter."""
+    order = draw.choice([[], ["sort", draw.choice(["title", "-title", "file", "-file"])]])
+    return [*order, *draw.choice([[], ["window", "0:2"], ["window", "1:"]])]
+
+
 def finding(state, draw):
     """An addition of what is found."""
-    order = draw.choice([[], ["sort", draw.choice(["title", "-title", "file", "-file"])]])
-    parts = [*order, *draw.choice([[], ["window", "0:2"], ["window", "1:"]])]
+    parts = sort_and_window(draw)
     place = [it for place in place_for(len(state.queue), draw) for it in ("position", place)]
     ways = [[draw.choice(["findadd", "searchadd"]), *filters(state, draw), *parts, *place]]
     name = draw.choice(PLAYLISTS)
     if len(state.playlists.get(name, ())) < MOST_ENTRIES:
-        ways.append(["searchaddpl", name, *filters(state, draw)])
+        ways.append(["searchaddpl", name, *filters(state, draw), *(parts if state.is_wide else [])])
     return draw.choice(ways)
 
 
@@ -190,7 +198,9 @@ def reading(state, draw):
     """A command that reads."""
     ways = [[it] for it in ("ping", "commands", "notcommands", "tagtypes", "status", "stats", "listplaylists", "playlistinfo", "playlistid")]
     ways += [[it, *draw.choice([[], ["/"], [draw.choice([*state.songs])]])] for it in ("listall", "listallinfo", "lsinfo")]
-    ways += [[it, *filters(state, draw)] for it in ("find", "search", "count", "playlistfind", "playlistsearch")]
+    parts = sort_and_window(draw) if state.is_wide else []
+    ways += [[it, *filters(state, draw), *parts] for it in ("find", "search", "playlistfind", "playlistsearch")]
+    ways += [["count", *filters(state, draw)]]
     ways += [["list", draw.choice(["title", "Artist"]), *draw.choice([[], filters(state, draw)])]]
     ways += [[it, str(draw.randrange(state.version + 2))] for it in ("plchanges", "plchangesposid")]
     ways += [[it, draw.choice([*state.playlists])] for it in ("listplaylist", "listplaylistinfo") if state.playlists]

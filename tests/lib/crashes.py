@@ -4,7 +4,9 @@ before leave, and which of these states a client may find. The states are told b
 import collections
 import contextlib
 import copy
+import fcntl
 import os
+import re
 
 import changes
 import model
@@ -23,6 +25,8 @@ CHANGED, MODIFIED = 86_400, "1970-01-02T00:00:00Z"
 MOST_UNANSWERED = 64
 # This part of the requests are command lists of several; this part of the others change nothing that is kept.
 LISTS, OTHERS = 0.2, 0.3
+# What the clock of a life tells, which no state has.
+CLOCK = re.compile(rb"^(uptime|db_update): [0-9]+", re.MULTILINE)
 
 
 def prepared(program, folder, left=None, is_old=False, is_wide=False, **settings):
@@ -37,6 +41,28 @@ def prepared(program, folder, left=None, is_old=False, is_wide=False, **settings
     daemon.settings |= wide
     daemon.write()
     return daemon
+
+
+@contextlib.contextmanager
+def full_pipe(path):
+    """A pipe that takes nothing meanwhile: a player that writes into it comes no further."""
+    if not os.path.exists(path):
+        os.mkfifo(path)
+    keeper = os.open(path, os.O_RDWR | os.O_NONBLOCK)
+    os.write(keeper, bytes(fcntl.fcntl(keeper, fcntl.F_GETPIPE_SZ)))
+    try:
+        yield
+    finally:
+        os.close(keeper)
+
+
+def playing(state, draw):
+    """A command of the player behind which no song plays at its end, which would come even where the pipe takes nothing."""
+    while True:
+        words = changes.playing(state, draw)
+        after, _ = state.after([words])
+        if after.state != player.PLAY or after.frame < after.frames():
+            return words
 
 
 def fresh(songs=None, is_wide=False):
@@ -153,7 +179,7 @@ class Front:
         while self.answered < len(self.answers) and self.answers[self.answered] is None:
             self.answered += 1
         expected = self.answers[self.answered] if self.answered < len(self.answers) else b""
-        if not expected.startswith(answer):
+        if not expected.startswith(CLOCK.sub(rb"\1: 0", answer)):
             raise Failure(f"answer {answer!r} in place of {expected!r}")
         self.answered += 1
 
@@ -177,11 +203,12 @@ class Front:
         """How many of the requests from the one to before the other changed what is kept."""
         return sum(self.states[it].seen() != self.states[it + 1].seen() for it in range(first, end))
 
-    def found(self, client, places=()):
-        """The place of the state that a client reads, by all that it can, and whether one order number alone goes with that. It must be one
-        of these places, or if not said of those from what was answered last on: what wasn't answered may be kept, with all before it."""
+    def found(self, client, places=(), plays=None):
+        """The place of the state that a client reads, by all that it can, and whether nothing else that is kept, as the order number, may
+        be another one. It must be one of these places, or if not said of those from what was answered last on: what wasn't answered may be
+        kept, with all before it. Where it is told whether a song plays on, the player has gone on."""
         places = places or range(self.answered, len(self.states))
-        told = lambda it: self.states[it].restarted().readings(changes.PLAYLISTS, SONGS)
+        told = lambda it: self.states[it].restarted(plays).readings(changes.PLAYLISTS, SONGS)
         answers = ask_all(client, [words for words, _ in told(0)])
         is_read = lambda it: all(answer == wanted for answer, (_, wanted) in zip(answers, told(it)))
         if not (left := list(filter(is_read, places))):
@@ -193,4 +220,4 @@ class Front:
         stamps = [*self.states[left[0]].stamp_readings()]
         if ask_all(client, [words for words, _ in stamps]) != [answer for _, answer in stamps]:
             raise Failure("the entries of the queue have other stamps")
-        return left[0], len({self.states[it].order_number for it in left}) == 1
+        return left[0], len({(self.states[it].order_number, self.states[it].kept) for it in left}) == 1

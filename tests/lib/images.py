@@ -6,12 +6,14 @@ record is drawn, also inside a write, and for each file what a crash may leave o
 its last sync, and at each byte that was written since then, or that lies behind the least length, the byte from before, the new one, or any
 other. The files of such a crash are opened by another console, which must answer as a state behind a write of records that had begun at
 that moment, and as none from before the last request that was answered then: so of a group all or nothing. In half of the records a
-checkpoint is made, half of them begin with a journal of layout 1, which is brought to another first, and a third each are of a daemon, of a
-console, and of a console with `stock_clients`, so layout 3."""
+checkpoint is made, half of them begin with a journal of layout 1, which is brought to another first, and a quarter each are of a daemon, of
+a console, of a console with `stock_clients`, so layout 3, and of a daemon with these, whose player is used too, and goes on behind the
+crash."""
 
 import bisect
 import collections
 import concurrent.futures
+import contextlib
 import itertools
 import os
 import random
@@ -28,12 +30,12 @@ from crashes import FILES
 from scripts import Failure, read, write
 
 # How many images are opened, and of each record.
-USUAL, EACH = 1_200, 100
+USUAL, EACH = 1_200, 75
 # How many requests a console is sent, and how many a daemon at least, of which so many at once; and how many records of the journal are
 # left at most before a checkpoint, where there is to be one.
 REQUESTS, MANY, TOGETHER, MOST_LEFT = 24, 60, (1, 2, 5, 20), 20
 # The kinds of records: a daemon, and `stock_clients`; layout 1 at first; a checkpoint.
-KINDS = [*itertools.product(((True, False), (False, False), (False, True)), (True, False), (True, False))]
+KINDS = [*itertools.product(((True, False), (False, False), (False, True), (True, True)), (True, False), (True, False))]
 # A file with fewer bytes has no head. Before the first checkpoint a crash leaves that beside a full one, which an emptied one may be, too.
 HEAD, EMPTIED = 32, b"where it had more, the other file may have an older state; if a copy has them, end this at once and put both back\n"
 
@@ -94,7 +96,9 @@ class Record:
         (self.is_served, self.is_wide), is_old, has_checkpoint = kind
         self.folder, self.draw, self.music = folder, draw, crashes.Music(folder, self.is_wide)
         left = draw.randrange(MOST_LEFT) if has_checkpoint else None
-        self.daemon = crashes.prepared(program, folder, left, is_old, self.is_wide)
+        self.plays = False if self.is_served and self.is_wide else None
+        goes_on = {} if self.plays is None else {"resume": "paused"}
+        self.daemon = crashes.prepared(program, folder, left, is_old, self.is_wide, **goes_on)
         self.journal, self.front = self.daemon.journal(), crashes.Front(crashes.fresh(is_wide=self.is_wide), draw, False)
         self.windows, self.marks, self.moments = [{it: Window(read(f"{folder}/{it}")) for it in FILES}], [], []
         self.use({"LD_PRELOAD": library, "CALLS": f"{folder}/calls"})
@@ -127,6 +131,7 @@ class Record:
             client = self.daemon.start(settings=settings).client()
         else:
             client = self.daemon.console(settings=settings, stderr=subprocess.DEVNULL)
+        others = [] if self.plays is None else [crashes.playing]
         with client, self.daemon:
             self.mark()
             self.front.scan(client, self.music)
@@ -134,7 +139,7 @@ class Record:
             most = len(self.front.answers) + (MANY if self.is_served else REQUESTS)
             while len(self.front.answers) < most:
                 count = self.draw.choice(TOGETHER) if self.is_served else 1
-                self.front.exchange(client, *(self.front.next_request() for _ in range(count)))
+                self.front.exchange(client, *(self.front.next_request(others) for _ in range(count)))
                 self.mark()
             if not self.is_served:
                 crashes.ended(client)
@@ -163,18 +168,30 @@ class Record:
             write(f"{self.folder}/{name}", content)
         try:
             wanted = self.told()
-            with self.daemon.console(stderr=subprocess.PIPE) as console:
-                self.front.found(console, places)
-                crashes.ended(console)
-                said = console.process.stderr.read()
+            said = self.look(places) if self.plays is None else self.look_at_player(places)
         except (Failure, OSError, IndexError) as fault:  # Files that no crash may leave can end within a record.
             return str(fault)
         return f"it said {said} and not {wanted}" if said != wanted else None
 
+    def look(self, places):
+        """A console finds the state at one of these places; what it said."""
+        with self.daemon.console(stderr=subprocess.PIPE) as console:
+            self.front.found(console, places)
+            crashes.ended(console)
+            return console.process.stderr.read()
+
+    def look_at_player(self, places):
+        """The same of a daemon, whose player goes on."""
+        self.daemon.lines.clear()
+        with self.daemon.start(), self.daemon.client() as client:
+            self.front.found(client, places, self.plays)
+            self.daemon.kill()
+        return "".join(f"{it}\n" for it in self.daemon.lines if not it.startswith("[")).encode()
+
 
 def kept(state):
     """All of it that is kept, to be told from other states."""
-    return state.seen(), state.stamps, state.next_id, state.order_number
+    return state.seen(), state.stamps, state.next_id, state.order_number, state.kept
 
 
 def calls_of(record):
@@ -193,7 +210,7 @@ def calls_of(record):
 
 def opened(program, library, room, seed):
     """Makes a record, and opens images of it: what was wrong, how many kinds of images there were, and the record's groups."""
-    with tempfile.TemporaryDirectory(dir=room) as folder:
+    with tempfile.TemporaryDirectory(dir=room) as folder, crashes.full_pipe(f"{folder}/sound"):
         record, found, seen = Record(program, library, folder, random.Random(seed), KINDS[seed % len(KINDS)]), [], set()
         for _ in range(EACH):
             images, places = record.image()

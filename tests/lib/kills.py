@@ -121,7 +121,7 @@ def begun(daemon, music, draw):
     for it in crashes.FILES:
         with contextlib.suppress(FileNotFoundError):
             os.remove(f"{daemon.folder}/{it}")
-    front = crashes.Front(crashes.fresh(), draw)
+    front = crashes.Front(crashes.fresh(is_wide=music.is_wide), draw)
     with daemon.create().console() as console:
         front.scan(console, music)
         crashes.ended(console)

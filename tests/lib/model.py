@@ -358,17 +358,27 @@ class State:
                 tests.append((words.pop(0), "pair", words.pop(0)))
         return [uri for uri in uris if all(self.holds(uri, is_folded, *it) for it in tests)]
 
-    def found(self, words, is_folded):
-        """The songs that match, sorted and cut, and the place that is named."""
+    def arranged(self, words, find):
+        """What is found, as pairs of a song and something of it, sorted by the song and cut, and the place that is named."""
         words, parts = list(words), {}
         while words[-2:-1] and words[-2] in ("sort", "window", "position"):
             *words, name, parts[name] = words
-        found = self.matching(self.told(self.songs), words, is_folded)
+        found = find(words)
         if order := parts.get("sort"):
-            found.sort(key=lambda uri: [it.encode() for it in self.texts(uri, order.removeprefix("-"))], reverse=order.startswith("-"))
+            key = lambda it: [text.encode() for text in self.texts(it[0], order.removeprefix("-"))]
+            found.sort(key=key, reverse=order.startswith("-"))
         # Past the end a window has nothing.
         first, end = span(parts.get("window", "0:"), max(len(found), int(parts.get("window", "0:").split(":")[0])))
-        return found[first:end], parts.get("position")
+        return [it for _, it in found[first:end]], parts.get("position")
+
+    def found(self, words, is_folded):
+        """The songs that match, sorted and cut, and the place that is named."""
+        return self.arranged(words, lambda it: [(uri, uri) for uri in self.matching(self.told(self.songs), it, is_folded)])
+
+    def places_found(self, words, is_folded):
+        """The same of the queue: positions."""
+        matches = lambda uri, it: self.matching([uri], it, is_folded)
+        return self.arranged(words, lambda it: [(entry.uri, at) for at, entry in enumerate(self.queue) if matches(entry.uri, it)])[0]
 
     def findadd(self, *words):
         self.insert(*self.found(words, False))
@@ -397,8 +407,10 @@ class State:
             raise Refused(*LIST_EXISTS)
         self.playlists[other] = self.playlists.pop(name)
 
-    def playlistadd(self, name, uri):
-        self.playlists[name] = self.playlists.get(name, ()) + tuple(self.songs_at(uri))
+    def playlistadd(self, name, uri, to=None):
+        kept, added = self.playlists.get(name, ()), tuple(self.songs_at(uri))
+        place = len(kept) if to is None else place_in(to, len(kept) + 1)
+        self.playlists[name] = kept[:place] + added + kept[place:]
 
     def playlistclear(self, name):
         self.listed(name)
@@ -408,9 +420,9 @@ class State:
         first, end = span(text, len(self.listed(name)))
         self.playlists[name] = self.playlists[name][:first] + self.playlists[name][end:]
 
-    def playlistmove(self, name, place, to):
-        first = place_in(place, len(self.listed(name)))
-        self.playlists[name] = moved(self.playlists[name], first, first + 1, int(to))
+    def playlistmove(self, name, text, to):
+        songs = self.listed(name)
+        self.playlists[name] = moved(songs, *span(text, len(songs)), int(to))
 
     # Stickers.
 

@@ -79,6 +79,7 @@ PARTS = [
     Part("players", "players {test_driver} --steps 5000"),
     Part("simulation", "simulation {test_driver}"),
     Part("kill", "crash {mpd_daemon} kill --rounds 80"),
+    Part("place", "crash {mpd_daemon} place --rounds 40"),
     Part("image", "crash {mpd_daemon} image", loads=True),
     Part("fault", "crash {mpd_daemon} fault", loads=True),
     Part("copy", "crash {mpd_daemon} copy --rounds 20"),

@@ -1,12 +1,24 @@
 """The player and the queue as plain values: what commands and the output's reports do by docs/PROTOCOL.md, found anew each time."""
 
 import copy
+import typing
 
 import model
 import readings
 
 STOP, PLAY, PAUSE = "stop", "play", "pause"
-NOT_PLAYING, UPDATING = (55, "Not playing"), (54, "already updating")
+NOT_PLAYING, UPDATING, FULL = (55, "Not playing"), (54, "already updating"), (54, "Update queue is full")
+# So many jobs wait with stock clients.
+MOST_WAITING = 32
+
+
+class Place(typing.NamedTuple):
+    """What is kept of the player: its state, its song, the frame, and what the random round has played."""
+
+    state: str = STOP
+    current: int | None = None
+    frame: int = 0
+    played: tuple = ()
 
 
 class Player(readings.Readable):
@@ -14,18 +26,55 @@ class Player(readings.Readable):
 
     def __init__(self, songs, key):
         super().__init__(songs, key)
+        self.kept = Place()
         self.begin()
 
     def begin(self):
         """What plays behind a start."""
         self.state, self.current, self.ticket, self.frame = STOP, None, 0, 0
-        self.played, self.error, self.jobs, self.job, self.failures = [], None, 0, None, 0
+        self.played, self.error, self.jobs, self.job, self.waiting, self.failures = [], None, 0, None, (), 0
 
-    def restarted(self):
-        """What is found behind a restart."""
+    def restarted(self, plays=None):
+        """What is found behind a restart; where it is told whether a song plays on, the player goes on."""
         state = copy.copy(self)
         state.begin()
+        if plays is not None:
+            state.resume(plays)
         return state
+
+    # What is kept of what plays, with the wide profile alone.
+
+    def done(self, words):
+        state, lines = super().done(words)
+        state.follow(self)
+        return state, lines
+
+    def follow(self, was):
+        """Behind a command or an event the place is that of the player, if what plays is another; what has left the queue leaves it too."""
+        ids, kept = {it.id for it in self.queue}, self.kept
+        kept = kept if kept.current in ids else Place(played=kept.played)
+        self.kept = kept._replace(played=tuple(it for it in kept.played if it in ids))
+        plays = lambda it: (it.state, it.current, it.ticket, it.settings["random"])
+        if plays(self) != plays(was):
+            self.put_place()
+
+    def put_place(self):
+        self.kept = Place(self.state, self.current, self.frame, tuple(self.played)) if self.is_wide else Place()
+
+    def keep(self, ticket):
+        """The song of this ticket has played for a while."""
+        if ticket == self.ticket and self.state != STOP:
+            self.put_place()
+
+    def resume(self, plays):
+        """The player goes on from its place, where nothing was started in this life."""
+        if self.ticket or not self.is_wide:
+            return
+        kept, self.ticket = self.kept, 1
+        self.played = [*kept.played] if self.is_on("random") else []
+        if kept.current is not None:
+            self.state, self.current = PAUSE if kept.state == PLAY and not plays else kept.state, kept.current
+            self.frame = min(kept.frame, self.frames())
 
     # What comes next.
 
@@ -283,10 +332,15 @@ class Player(readings.Readable):
     # Scans.
 
     def update(self, uri=""):
-        if self.job is not None:
+        if self.job is not None and not self.is_wide:
             raise model.Refused(*UPDATING)
+        if len(self.waiting) == MOST_WAITING:
+            raise model.Refused(*FULL)
         self.jobs += 1
-        self.job = self.jobs
+        if self.job is None:
+            self.job = self.jobs
+        else:
+            self.waiting += (self.jobs,)
         return f"updating_db: {self.jobs}\n"
 
     rescan = update
@@ -301,7 +355,12 @@ class Player(readings.Readable):
     def scanned(self, songs):
         """A whole scan finds these songs."""
         self.batch(songs)
-        self.job = None
+        self.job_over()
+
+    def job_over(self):
+        """The job is over, and the one that waited longest begins."""
+        self.job, *waiting = self.waiting or (None,)
+        self.waiting = tuple(waiting)
 
     # What a client and the output read.
 

@@ -106,11 +106,11 @@ class Readable(model.State):
     def plchangesposid(self, version, text="0:"):
         return "".join(f"cpos: {it}\nId: {self.queue[it].id}\n" for it in self.changed_since(version, text))
 
-    def playlistfind(self, *pairs):
-        return self.entry_lines(at for at, it in enumerate(self.queue) if self.matching([it.uri], pairs, False))
+    def playlistfind(self, *words):
+        return self.entry_lines(self.places_found(words, False))
 
-    def playlistsearch(self, *pairs):
-        return self.entry_lines(at for at, it in enumerate(self.queue) if self.matching([it.uri], pairs, True))
+    def playlistsearch(self, *words):
+        return self.entry_lines(self.places_found(words, True))
 
     # Playlists and stickers.
 

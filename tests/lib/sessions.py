@@ -29,7 +29,7 @@ FIXED = {
 def changed(was, now):
     """The subsystems in which two states differ; of the database only a scan's end tells."""
     parts = {
-        "update": lambda it: (it.jobs, it.job),
+        "update": lambda it: it.job,
         "stored_playlist": lambda it: it.playlists,
         "playlist": lambda it: it.version,
         "player": lambda it: (it.state, it.current, it.ticket),
@@ -89,8 +89,8 @@ class Clients:
         """What tells it from others."""
         sets = [(client, *sorted(it), self.waiting[client] and (*sorted(self.waiting[client]),)) for client, it in self.pending.items()]
         state = self.state
-        kept = state.seen(), state.stamps, state.next_id, state.order_number, state.jobs, state.job
-        plays = state.state, state.current, state.ticket, state.frame, *state.played, state.error
+        kept = state.seen(), state.stamps, state.next_id, state.order_number, state.jobs, state.job, state.waiting
+        plays = state.state, state.current, state.ticket, state.frame, *state.played, state.error, *state.kept
         return self.has_ended, *sorted(self.closed), *kept, *plays, *sets, *self.channels.items(), *self.unread.items()
 
     def connect(self, client):
@@ -220,6 +220,7 @@ class Clients:
         """An event of the player or of a scan changes the state."""
         was, self.state = self.state, self.state.copied()
         event(self.state)
+        self.state.follow(was)
         self.mark(changed(was, self.state))
         return self.told([])
 
@@ -242,7 +243,4 @@ class Clients:
             self.mark({"database"})
         self.has_found = False
 
-        def end(state):
-            state.job = None
-
-        return self.happened(end)
+        return self.happened(lambda state: state.job_over())

@@ -166,7 +166,10 @@ class Episode:
         stream = draw.choice(streams)
         if len(stream.unsent) < MOST_WAITING and (not stream.unsent or draw.random() < 0.5):
             for _ in range(draw.choice([1, 1, 1, 2, 3])):
-                stream.ask(self.request(draw))
+                request = self.request(draw)
+                while stream.may_fail and b"subscribe" in request.text:
+                    request = self.request(draw)
+                stream.ask(request)
         return self.is_silent(f"{stream.number}>- {shown(stream.next_piece(draw))}")
 
     def slow(self, draw):
@@ -181,6 +184,9 @@ class Episode:
         elif word == "calls":
             way, how = draw.choice(["read", "write"]), draw.choice(["blocks", "interrupted", "fails"])
             number = draw.randint(1, 3)
+            # The end of one whose reading fails comes where it was to be read, before or behind a message of that turn: it has no channel.
+            if (way, how) == ("read", "fails") and stream.has_subscribed:
+                how = "blocks"
             self.is_silent(f"{stream.number} {way} {number} {how}")
             stream.may_fail, stream.may_lag = how == "fails", 0 if how == "fails" else 100
         else:
@@ -568,7 +574,9 @@ class Episode:
     def stray(self, draw):
         """The output reports something, mostly of a song that it plays no more."""
         ticket = max(0, self.clients.state.ticket - draw.choice([0, 1, 1, 2]))
-        name, *given = draw.choice([("fed", draw.choice([0, 1, 100])), ("ended",), ("broken", draw.choice(["source", "output"]))])
+        name, *given = draw.choice(
+            [("fed", draw.choice([0, 1, 100])), ("ended",), ("broken", draw.choice(["source", "output"]))] + [("keep",)] * 2 * self.is_wide
+        )
         line = " ".join(map(str, [name, ticket, *given]))
         return self.reported(line, lambda: self.clients.report(name, ticket, *given))
 
@@ -634,12 +642,22 @@ class Episode:
             raise Finding(f"the journal is not opened: {printed}")
 
     def find(self, possible, draw):
-        """Looks which of the states that there may be is there."""
+        """Looks which of the states that there may be is there; with the wide profile the player mostly goes on first."""
         self.streams, self.waiting = {}, []
         self.event, self.left, self.gones = 0, 0, (0, 0)
         self.speaker = speaker.Speaker()
         self.is_silent("reads")
-        self.look([it.restarted() for it in possible])
+        plays = draw.choice([None, True, False]) if self.is_wide else None
+        states = [it.restarted(plays) for it in possible]
+        if plays is not None:
+            self.event, printed = 1, self.do(f"resume {int(plays)}")[0]
+            if printed == [BROKEN] and self.may_break:
+                self.possible, self.is_over = [it.restarted() for it in possible], True
+                return
+            if printed:
+                raise Finding(f"the player goes on, and {printed} is printed")
+            self.counts["lives that go on"] += 1
+        self.look(states)
 
     def look(self, states):
         """A client comes and reads which of these states there is; nobody else is connected."""
@@ -650,7 +668,7 @@ class Episode:
         if states:
             states = self.looked(states, lambda it: [*it.stamp_readings()], "the stamps found")
         # A disk may have failed while it was looked at.
-        if len({(it.order_number, it.next_id, it.stamps, it.ticket, it.frame, *it.played) for it in states}) > 1:
+        if len({(it.order_number, it.next_id, it.stamps, it.ticket, it.frame, it.kept, *it.played) for it in states}) > 1:
             raise Over
         if states:
             self.clients.state = states[0]

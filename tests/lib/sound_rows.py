@@ -321,6 +321,8 @@ def rooms_that_begin_again(program, folder):
                 pipe = os.open(f"{folder}/rooms", os.O_RDONLY | os.O_NONBLOCK)
                 client.do(before)
                 found += read_of(pipe, count)
+                if behind == "pause 1":
+                    wait_for("what is read in the pause", lambda: pending(f"{folder}/rooms") >= 50_000)
                 client.do(behind)
                 os.close(pipe)
                 time.sleep(0.5)

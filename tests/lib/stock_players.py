@@ -126,7 +126,7 @@ PYTHON_MPD = [
     ("channels", ["x"]),
     ("readmessages", [{"channel": "x", "message": "a_b"}]),
     ("unsubscribe x", None),
-    *((it, UNKNOWN % it.split()[0]) for it in ("listfiles", "listfiles d", "config")),
+    ("config", UNKNOWN % "config"),
     ("searchaddpl made composer ", None),
     ("listplaylist made", ["a.wav", "b.wav", "d/c.wav", "d/e.wav", "d/é é.wav"]),
     ("rm made", None),

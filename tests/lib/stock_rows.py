@@ -31,9 +31,11 @@ NO_CROSSFADE, NO_MIXRAMP, NO_GAIN = "2 no crossfade here", "2 no mixramp here", 
 # The names of commands, each with how many arguments it has.
 COUNTS = {it: 0 for it in """channels decoders getvol listmounts listneighbors listpartitions outputs playlist readmessages
 replay_gain_status urlhandlers""".split()}
-COUNTS |= {it: 1 for it in """binarylimit crossfade disableoutput enableoutput mixrampdb mixrampdelay partition password readcomments
-replay_gain_mode subscribe toggleoutput unsubscribe volume""".split()}
+COUNTS |= {it: 1 for it in """binarylimit crossfade disableoutput enableoutput listfiles mixrampdb mixrampdelay partition password
+readcomments replay_gain_mode subscribe toggleoutput unsubscribe volume""".split()}
 COUNTS |= {"albumart": 2, "readpicture": 2, "sendmessage": 2, "outputset": 3}
+# Those whose last argument may be left out.
+OPTIONAL = {"listfiles"}
 NAMES = sorted(COUNTS)
 
 ROWS = [
@@ -84,7 +86,11 @@ ROWS = [
     ("playlist", ["0:file: a.wav", "1:file: b.wav", "2:file: d/c.wav", "3:file: d/e.wav", "4:file: d/é é.wav"]),
     # Wrong counts of all of them.
     *((f"{name} {'0 ' * count}0", f'2 wrong number of arguments for "{name}"') for name, count in COUNTS.items()),
-    *((f"{name} {'0 ' * (count - 1)}", f'2 wrong number of arguments for "{name}"') for name, count in COUNTS.items() if count),
+    *(
+        (f"{name} {'0 ' * (count - 1)}", f'2 wrong number of arguments for "{name}"')
+        for name, count in COUNTS.items()
+        if count and name not in OPTIONAL
+    ),
     # Tags.
     ("tagtypes", [f"tagtype: {it}" for it in TAGS]),
     ("tagtypes all", []),
@@ -234,8 +240,18 @@ ROWS = [
     ("count Composer x", ["songs: 0", "playtime: 0"]),
     ("playlistfind AlbumArtist Two", QUEUE[3]),
     ("playlistsearch filename A.WAV", QUEUE[0]),
+    ("listfiles", ["file: a.wav", "size: 32044", MODIFIED_LINE, "file: b.wav", "size: 32140", MODIFIED_LINE, "directory: d"]),
+    ("listfiles a.wav", "50 No such file or directory"),
+    ("listfiles none", "50 No such file or directory"),
+    ("listfiles d d", '2 wrong number of arguments for "listfiles"'),
     ("playlistfind Work x", []),
-    ("playlistfind Work x sort Title", '2 unknown tag "sort"'),
+    ("playlistfind Work x sort Title", []),
+    ("playlistfind base d sort Title window 1:", [line for place in (2, 3) for line in QUEUE[place]]),
+    ("playlistsearch artist o sort -Title window 0:2", [line for place in (3, 1) for line in QUEUE[place]]),
+    ("playlistfind base d sort Mood", '2 unknown tag "Mood"'),
+    ("playlistfind base d window 1", "2 bad argument 4"),
+    ("playlistfind base d window 0:1 sort Title", "2 bad argument 5"),
+    ('playlistfind base d sort', '2 wrong number of arguments for "playlistfind"'),
     # An empty value is within each text, also where there is none.
     ('search title ""', [*B, *A, *Z, *E, *C]),
     ('search ANY ""', [*A, *Z, *E, *C]),

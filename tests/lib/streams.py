@@ -49,6 +49,8 @@ class Stream:
         self.is_blocked, self.has_ended, self.budget = False, False, None
         # A call of it fails, or blocks, so that it may be let go of, or get things late.
         self.may_fail, self.may_lag = False, 0
+        # It has asked for a channel.
+        self.has_subscribed = False
         # It is read from the turn on behind the one in which it is accepted.
         self.is_new = True
 
@@ -63,6 +65,7 @@ class Stream:
     def ask(self, request):
         self.unsent += request.text
         self.made += len(request.text)
+        self.has_subscribed = self.has_subscribed or b"subscribe" in request.text
         self.requests.append((self.made, request))
 
     def next_piece(self, draw):

@@ -1,7 +1,10 @@
 mod Calls
 mod Copies
+mod ForItself
+mod Limited
 mod NameLaws
 mod NameSteps
+mod Notices
 mod Place
 mod Rising
 mod Steps

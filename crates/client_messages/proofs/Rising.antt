@@ -20,7 +20,7 @@ rising_from ls rises i j d lt in_range =
     rw (get_or_default ls i d (newcomer 0) (omega arith), get_or_default ls j d (newcomer 0) in_range) (rises i j lt in_range)
 
 -- a change of each client that keeps its number keeps the order
-rising_map : (f : Listener → Listener) → ((l : Listener) → (f l).client ≡ l.client) → (ls : List Listener) → IsRising ls
+pub rising_map : (f : Listener → Listener) → ((l : Listener) → (f l).client ≡ l.client) → (ls : List Listener) → IsRising ls
     → IsRising (map f ls)
 rising_map f same ls rising = rising_from _ (λ i j lt in_range.
     let long = length-map ls f in
@@ -115,7 +115,7 @@ rising_sent ls m = rising_map (delivered m) (λ l. elim (takes m l) as
     [ true ↦ refl | false ↦ refl ]) ls
 
 -- a number below those of the clients is below the numbers of those that are to be told
-all_notified_above : (c : ℕ) (m : Message) (ls : List Listener) → AllByRecursion (λ l. c < l.client) ls
+pub all_notified_above : (c : ℕ) (m : Message) (ls : List Listener) → AllByRecursion (λ l. c < l.client) ls
     → AllByRecursion (λ d. c < d) (notified ls m)
 all_notified_above c m [] above = tt
 all_notified_above c m (l ∷ ls) above = with_one (takes m l && (length l.unread == 0)) (all_notified_above c m ls above.1)

@@ -1,4 +1,5 @@
 pub mod Channel
+pub mod Limited
 pub mod Limits
 pub mod Listeners
 pub mod Messages

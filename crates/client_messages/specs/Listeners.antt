@@ -79,6 +79,10 @@ delivered m l = if takes m l then record l { unread = l.unread ++ m ∷ [] } els
 abbrev pub sent : List Listener → Message → List Listener
 sent ls m = map (delivered m) ls
 
+-- the client has nothing unread
+abbrev pub has_read_all : Listener → Bool
+has_read_all l = length l.unread == 0
+
 -- the client's number, if it gets the message and had read all before
 abbrev pub notice_of : Message → Listener → Option ℕ
 notice_of m l = if takes m l && (length l.unread == 0) then Some l.client else None

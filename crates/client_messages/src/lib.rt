@@ -5,6 +5,7 @@ pub mod channel;
 pub mod channel_names;
 pub mod client_messages;
 pub mod delivery;
+pub mod laws;
 pub mod limits;
 pub mod listener;
 pub mod message;

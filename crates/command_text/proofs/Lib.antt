@@ -21,6 +21,7 @@ mod WordsText
 pub mod Mixed
 mod SearchParts
 mod SearchCounts
+mod FiltersAlone
 mod FilterFaults
 mod Ends
 mod NamedTags

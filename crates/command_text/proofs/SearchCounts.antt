@@ -27,12 +27,12 @@ two_more word other words =
     let long : length (word ∷ other ∷ words) ≡ 2 + length words = omega arith in
     ap is_even long ∙ even_two (length words)
 
-is_two_by_two : (words : List Word) → is_even (length words) ≡ true → AreTwoByTwo words
+pub is_two_by_two : (words : List Word) → is_even (length words) ≡ true → AreTwoByTwo words
 is_two_by_two [] h = tt
 is_two_by_two (word ∷ []) h = absurd (cc)
 is_two_by_two (word ∷ other ∷ words) h = is_two_by_two words (sym (two_more word other words) ∙ h)
 
-counts_even : (words : List Word) → AreTwoByTwo words → is_even (length words) ≡ true
+pub counts_even : (words : List Word) → AreTwoByTwo words → is_even (length words) ≡ true
 counts_even [] even = refl
 counts_even (word ∷ []) even = absurd even
 counts_even (word ∷ other ∷ words) even = two_more word other words ∙ counts_even words even

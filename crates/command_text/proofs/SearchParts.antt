@@ -210,7 +210,7 @@ joined case (Ok f) (Ok s) (Err e) next middle behind is = rw is refl
 joined case (Ok f) (Ok s) (Ok w) next middle behind is = rw is refl
 
 search_is : (profile : Profile) (adds : Bool) (case : Case) (words : List Word) (p : Parts) → ArePartedSo profile adds words p
-    → search_parts profile adds case words ≡ with_rest (search_of profile case p) (behind_window p)
+    → search_parts profile adds case (length words) words ≡ with_rest (search_of profile case p) (behind_window p)
 unfolding search_parts
 search_is profile adds case words p parted =
     let counted : filter_length profile adds words ≡ length p.filter =

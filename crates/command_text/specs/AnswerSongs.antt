@@ -7,6 +7,7 @@ use Rattle.play_queue.specs.declared.entry.Entry.{Entry}
 use Rattle.song_db.specs.Row.{Row}
 use Rattle.song_db.specs.Duration.{milliseconds}
 use Rattle.song_files.specs.Tag.{name_of}
+use Rattle.song_files.specs.declared.folder.FileStamp.{FileStamp}
 use Rattle.song_files.specs.Tags.{TagText}
 use Rattle.command_text.specs.Answer.{line, pair, number_pair}
 use Rattle.command_text.specs.AnswerDates.{time_text}
@@ -21,6 +22,15 @@ file_line uri = pair (codes "file") uri
 abbrev pub modified_line : Option ℕ → List ℕ
 modified_line None = []
 modified_line (Some time) = pair (codes "Last-Modified") (time_text time)
+
+-- how many bytes the song's file has, where that is known
+abbrev pub size_line : Option FileStamp → List ℕ
+size_line None = []
+size_line (Some stamp) = number_pair (codes "size") stamp.length
+
+-- a song's file by its name in its folder
+abbrev pub named_file_lines : List ℕ → Row → List ℕ
+named_file_lines name row = file_line name ++ (size_line row.stamp ++ modified_line (known_time row.stamp))
 
 abbrev pub head_lines : Row → List ℕ
 head_lines row = file_line row.uri ++ modified_line (known_time row.stamp)

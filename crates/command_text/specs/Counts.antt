@@ -41,6 +41,14 @@ two_arguments (a ∷ []) = Err WrongCount
 two_arguments (a ∷ b ∷ []) = Ok (a, b)
 two_arguments (a ∷ b ∷ c ∷ words) = Err WrongCount
 
+-- two, behind which another may stand
+abbrev pub two_or_three : List Word → Result (Word × (Word × Option Word)) CommandRefusal
+two_or_three [] = Err WrongCount
+two_or_three (a ∷ []) = Err WrongCount
+two_or_three (a ∷ b ∷ []) = Ok (a, (b, None))
+two_or_three (a ∷ b ∷ c ∷ []) = Ok (a, (b, Some c))
+two_or_three (a ∷ b ∷ c ∷ d ∷ words) = Err WrongCount
+
 abbrev pub three_arguments : List Word → Result (Word × (Word × Word)) CommandRefusal
 three_arguments [] = Err WrongCount
 three_arguments (a ∷ []) = Err WrongCount

@@ -44,6 +44,7 @@ abbrev pub keeps_place : DatabaseName → Bool
 keeps_place names.Commands = false
 keeps_place names.ListAll = false
 keeps_place names.ListAllInfo = false
+keeps_place names.ListFiles = false
 keeps_place names.ListInfo = false
 keeps_place names.NotCommands = false
 keeps_place names.Rescan = true
@@ -55,6 +56,7 @@ unfoldable pub database_of : Profile → DatabaseName → List Word → Result D
 database_of profile names.Commands words = no_argument commands.Commands words
 database_of profile names.ListAll words = path_argument words >>= λ path. Ok (commands.ListAll path)
 database_of profile names.ListAllInfo words = path_argument words >>= λ path. Ok (commands.ListAllInfo path)
+database_of profile names.ListFiles words = path_argument words >>= λ path. Ok (commands.ListFiles path)
 database_of profile names.ListInfo words = path_argument words >>= λ path. Ok (commands.ListInfo path)
 database_of profile names.NotCommands words = no_argument commands.NotCommands words
 database_of profile names.Rescan words = scan_of words >>= λ place. Ok (commands.Rescan place)

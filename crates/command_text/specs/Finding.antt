@@ -136,34 +136,51 @@ abbrev pub nothing_left : {A : Type 0} → ℕ → List Word → A → Result A 
 nothing_left total [] value = Ok value
 nothing_left total (word ∷ words) value = Err (BadArgument (total - length words))
 
--- a filter, an order and a window, and the words behind them
-unfoldable pub search_parts : Profile → Bool → Case → List Word → Result (Search × List Word) CommandRefusal
-search_parts profile adds case words = do
+-- a filter, an order and a window, and the words behind them, of so many arguments in all
+unfoldable pub search_parts : Profile → Bool → Case → ℕ → List Word → Result (Search × List Word) CommandRefusal
+search_parts profile adds case total words = do
   filter ← filter_argument profile (take (filter_length profile adds words) words)
   sort ← sort_part profile (drop (filter_length profile adds words) words)
-  window ← window_part (length words) sort.1
+  window ← window_part total sort.1
   Ok (record { case = case; filter = filter; sort = sort.0; window = window.0 }, window.1)
 
 unfoldable pub find_of : Profile → Case → List Word → Result FindingCommand CommandRefusal
 find_of profile case words =
     if not (has_search_count profile false words) then Err WrongCount
-    else (search_parts profile false case words >>= λ x. nothing_left (length words) x.1 (commands.Find x.0))
+    else (search_parts profile false case (length words) words >>= λ x. nothing_left (length words) x.1 (commands.Find x.0))
 
 unfoldable pub find_add_of : Profile → Case → List Word → Result FindingCommand CommandRefusal
 find_add_of profile case words =
     if not (has_search_count profile true words) then Err WrongCount
-    else (search_parts profile true case words >>= λ x. position_part (length words) x.1
+    else (search_parts profile true case (length words) words >>= λ x. position_part (length words) x.1
     >>= λ to. nothing_left (length words) to.1 (commands.Add x.0 to.0))
 
 -- a filter and nothing behind it
 unfoldable pub filter_alone : Profile → List Word → Result Tree CommandRefusal
 filter_alone profile words = if not (has_filter_count profile words) then Err WrongCount else filter_argument profile words
 
+-- the count of a filter behind which in the wide profile an order and a window may stand, and nothing in the named subset
+abbrev pub has_arranged_count : Profile → List Word → Bool
+has_arranged_count Named words = has_filter_count Named words
+has_arranged_count Wide words = has_search_count Wide false words
+
+-- such a filter with what stands behind it, of so many arguments in all
+unfoldable pub arranged_search : Profile → Case → ℕ → List Word → Result Search CommandRefusal
+arranged_search Named case total words =
+    filter_argument Named words >>= λ filter. Ok (record { case = case; filter = filter; sort = None; window = None })
+arranged_search Wide case total words = search_parts Wide false case total words >>= λ x. nothing_left total x.1 x.0
+
 unfoldable pub add_to_playlist_of : Profile → List Word → Result FindingCommand CommandRefusal
 add_to_playlist_of profile [] = Err WrongCount
 add_to_playlist_of profile (name ∷ words) =
-    if not (has_filter_count profile words) then Err WrongCount
-    else (playlist_name name >>= λ list. filter_argument profile words >>= λ filter. Ok (commands.AddToPlaylist list filter))
+    if not (has_arranged_count profile words) then Err WrongCount
+    else (playlist_name name >>= λ list. arranged_search profile Folded (length words + 1) words
+    >>= λ search. Ok (commands.AddToPlaylist list search))
+
+unfoldable pub in_queue_of : Profile → Case → List Word → Result FindingCommand CommandRefusal
+in_queue_of profile case words =
+    if not (has_arranged_count profile words) then Err WrongCount
+    else (arranged_search profile case (length words) words >>= λ search. Ok (commands.InQueue search))
 
 -- in a tag's place of `list` the wide profile knows the songs' files by either name
 abbrev pub is_file : Profile → Word → Bool
@@ -233,8 +250,8 @@ finding_of profile names.Count words = count_of profile words
 finding_of profile names.Find words = find_of profile Exact words
 finding_of profile names.FindAdd words = find_add_of profile Exact words
 finding_of profile names.ListTag words = list_of profile words
-finding_of profile names.QueueFind words = filter_alone profile words >>= λ filter. Ok (commands.InQueue Exact filter)
-finding_of profile names.QueueSearch words = filter_alone profile words >>= λ filter. Ok (commands.InQueue Folded filter)
+finding_of profile names.QueueFind words = in_queue_of profile Exact words
+finding_of profile names.QueueSearch words = in_queue_of profile Folded words
 finding_of profile names.Search words = find_of profile Folded words
 finding_of profile names.SearchAdd words = find_add_of profile Folded words
 finding_of profile names.SearchAddPlaylist words = add_to_playlist_of profile words

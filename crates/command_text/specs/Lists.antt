@@ -1,16 +1,21 @@
 -- The commands of the stored playlists.
 use Rattle.std.specs.Prelude.{List, Option, Some, None, Result, Ok, codes, if◌then◌else◌}
+use Rattle.std.specs.Option.{option_map}
 use Rattle.std.specs.Str.{bytes_eq}
+use Rattle.profile.specs.declared.profile.Profile.{Profile}
+use Rattle.profile.specs.declared.profile.Profile.TheVariants.{Named, Wide}
 use Rattle.command_text.specs.declared.command.lists.ListsCommand.{ListsCommand}
 use Rattle.command_text.specs.declared.command.lists.ListsCommand.TheVariants as commands
 use Rattle.command_text.specs.declared.command.lists.SaveMode.{SaveMode}
 use Rattle.command_text.specs.declared.command.lists.SaveMode.TheVariants.{Create, Append, Replace}
+use Rattle.command_text.specs.declared.range.PositionRange.{PositionRange}
+use Rattle.command_text.specs.declared.range.PositionRange.TheVariants.{One}
 use Rattle.command_text.specs.declared.refusal.CommandRefusal.{CommandRefusal}
 use Rattle.command_text.specs.declared.topic.ListsName.{ListsName}
 use Rattle.command_text.specs.declared.topic.ListsName.TheVariants as names
 use Rattle.command_text.specs.Arguments.{number_of, range_of, target_of, text_of}
 use Rattle.command_text.specs.Counts.{◌>>=◌, Word, no_argument, one_argument, two_arguments, three_arguments, one_or_two, one_to_three}
-use Rattle.command_text.specs.Counts.{argument, optional}
+use Rattle.command_text.specs.Counts.{argument, optional, two_or_three}
 use Rattle.command_text.specs.NameArguments.{playlist_name}
 
 -- the one argument is a playlist's name
@@ -32,12 +37,18 @@ rename_of words = do
   to ← playlist_name given.1
   Ok (commands.Rename from to)
 
-unfoldable pub list_add_of : List Word → Result ListsCommand CommandRefusal
-list_add_of words = do
-  given ← two_arguments words
+-- in the wide profile a place may stand behind the URI
+abbrev pub added_arguments : Profile → List Word → Result (Word × (Word × Option Word)) CommandRefusal
+added_arguments Named words = two_arguments words >>= λ given. Ok (given.0, (given.1, None))
+added_arguments Wide words = two_or_three words
+
+unfoldable pub list_add_of : Profile → List Word → Result ListsCommand CommandRefusal
+list_add_of profile words = do
+  given ← added_arguments profile words
   name ← playlist_name given.0
-  uri ← argument 2 (text_of given.1)
-  Ok (commands.Add name uri)
+  uri ← argument 2 (text_of given.1.0)
+  to ← optional 3 number_of given.1.1
+  Ok (commands.Add name uri to)
 
 unfoldable pub list_delete_of : List Word → Result ListsCommand CommandRefusal
 list_delete_of words = do
@@ -46,11 +57,16 @@ list_delete_of words = do
   range ← argument 2 (range_of given.1)
   Ok (commands.Delete name range)
 
-unfoldable pub list_move_of : List Word → Result ListsCommand CommandRefusal
-list_move_of words = do
+-- in the wide profile a RANGE may be moved
+abbrev pub moved_of : Profile → Word → Option PositionRange
+moved_of Named word = option_map One (number_of word)
+moved_of Wide word = range_of word
+
+unfoldable pub list_move_of : Profile → List Word → Result ListsCommand CommandRefusal
+list_move_of profile words = do
   given ← three_arguments words
   name ← playlist_name given.0
-  from ← argument 2 (number_of given.1.0)
+  from ← argument 2 (moved_of profile given.1.0)
   to ← argument 3 (number_of given.1.1)
   Ok (commands.Move name from to)
 
@@ -73,15 +89,15 @@ save_of words = do
   mode ← save_mode given.1
   Ok (commands.Save name mode)
 
-unfoldable pub lists_of : ListsName → List Word → Result ListsCommand CommandRefusal
-lists_of names.ListPlaylist words = one_name words >>= λ name. Ok (commands.Songs name)
-lists_of names.ListPlaylistInfo words = one_name words >>= λ name. Ok (commands.SongsInfo name)
-lists_of names.ListPlaylists words = no_argument commands.Names words
-lists_of names.Load words = load_of words
-lists_of names.PlaylistAdd words = list_add_of words
-lists_of names.PlaylistClear words = one_name words >>= λ name. Ok (commands.Clear name)
-lists_of names.PlaylistDelete words = list_delete_of words
-lists_of names.PlaylistMove words = list_move_of words
-lists_of names.Remove words = one_name words >>= λ name. Ok (commands.Remove name)
-lists_of names.Rename words = rename_of words
-lists_of names.Save words = save_of words
+unfoldable pub lists_of : Profile → ListsName → List Word → Result ListsCommand CommandRefusal
+lists_of profile names.ListPlaylist words = one_name words >>= λ name. Ok (commands.Songs name)
+lists_of profile names.ListPlaylistInfo words = one_name words >>= λ name. Ok (commands.SongsInfo name)
+lists_of profile names.ListPlaylists words = no_argument commands.Names words
+lists_of profile names.Load words = load_of words
+lists_of profile names.PlaylistAdd words = list_add_of profile words
+lists_of profile names.PlaylistClear words = one_name words >>= λ name. Ok (commands.Clear name)
+lists_of profile names.PlaylistDelete words = list_delete_of words
+lists_of profile names.PlaylistMove words = list_move_of profile words
+lists_of profile names.Remove words = one_name words >>= λ name. Ok (commands.Remove name)
+lists_of profile names.Rename words = rename_of words
+lists_of profile names.Save words = save_of words

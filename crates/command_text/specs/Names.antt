@@ -65,6 +65,7 @@ rows =
     row names.ListTag (codes "list") (topics.Finding finding.ListTag) ∷
     row names.ListAll (codes "listall") (topics.Database database.ListAll) ∷
     row names.ListAllInfo (codes "listallinfo") (topics.Database database.ListAllInfo) ∷
+    wide_row names.ListFiles (codes "listfiles") (topics.Database database.ListFiles) ∷
     wide_row names.ListMounts (codes "listmounts") (topics.Setup setup.ListMounts) ∷
     wide_row names.ListNeighbors (codes "listneighbors") (topics.Setup setup.ListNeighbors) ∷
     wide_row names.ListPartitions (codes "listpartitions") (topics.Setup setup.ListPartitions) ∷

@@ -42,7 +42,7 @@ command_with profile (topics.Settings name) words = settings_of name words >>= �
 command_with profile (topics.Database name) words = database_of profile name words >>= λ x. Ok (commands.Database x)
 command_with profile (topics.Queue name) words = queue_of profile name words >>= λ x. Ok (commands.Queue x)
 command_with profile (topics.Finding name) words = finding_of profile name words >>= λ x. Ok (commands.Finding x)
-command_with profile (topics.Lists name) words = lists_of name words >>= λ x. Ok (commands.Lists x)
+command_with profile (topics.Lists name) words = lists_of profile name words >>= λ x. Ok (commands.Lists x)
 command_with profile topics.Stickers words = stickers_of words >>= λ x. Ok (commands.Stickers x)
 command_with profile (topics.Messages name) words = messages_of name words >>= λ x. Ok (commands.Messages x)
 command_with profile (topics.Playing name) words = playing_of name words >>= λ x. Ok (commands.Playing x)

@@ -8,6 +8,7 @@ use Rattle.filter_expr.specs.declared.case.Case.{Case}
 use Rattle.filter_expr.specs.declared.order.SortOrder.{SortOrder}
 use Rattle.filter_expr.specs.Parts.{opening, begins_so}
 use Rattle.filter_expr.specs.SortWord.{sort_order}
+use Rattle.filter_expr.specs.Tree.{Tree}
 use Rattle.command_text.specs.declared.command.finding.FindingCommand.{FindingCommand}
 use Rattle.command_text.specs.declared.command.finding.FindingCommand.TheVariants as commands
 use Rattle.command_text.specs.declared.command.finding.Search.{Search}
@@ -166,3 +167,22 @@ abbrev pub IsAnswer :
 IsAnswer profile adds says words answer =
     ((p : Parts) × AreSearch profile adds words p × (answer ≡ says p))
     ⊎ (((p : Parts) → AreSearch profile adds words p → ⊥) × (answer ≡ Err WrongCount))
+
+-- expressions and pairs in any order
+abbrev pub ArePartsAlone : List Word → Type 0
+ArePartsAlone [] = Unit {0}
+ArePartsAlone (word ∷ []) = begins_so opening word ≡ true
+ArePartsAlone (word ∷ other ∷ words) =
+    ((begins_so opening word ≡ true) × ArePartsAlone (other ∷ words)) ⊎ ((begins_so opening word ≡ false) × ArePartsAlone words)
+
+-- the words of a filter behind which nothing stands
+abbrev pub IsAlone : Profile → List Word → Type 0
+IsAlone profile [] = ⊥
+IsAlone Named (word ∷ words) =
+    ((begins_so opening word ≡ true) × (words ≡ [])) ⊎ ((begins_so opening word ≡ false) × AreTwoByTwo (word ∷ words))
+IsAlone Wide (word ∷ words) = ArePartsAlone (word ∷ words)
+
+-- what they say, or a wrong count where they are none
+abbrev pub IsAnswerAlone : Profile → List Word → Result Tree CommandRefusal → Type 0
+IsAnswerAlone profile words answer =
+    (IsAlone profile words × (answer ≡ filter_argument profile words)) ⊎ ((IsAlone profile words → ⊥) × (answer ≡ Err WrongCount))

@@ -18,7 +18,10 @@ pub use names::{
 pub use no_memory::NoMemory;
 pub use pairs::{write_greeting, write_list_ok, write_number, write_ok, write_pair};
 pub use setup::{write_setup, write_setup_status};
-pub use songs::{write_entry, write_file, write_id, write_numbered_file, write_place, write_song};
+pub use songs::{
+    write_entry, write_file, write_id, write_named_file, write_numbered_file, write_place,
+    write_song,
+};
 pub use status::{CurrentSong, StatusLines, write_job, write_status, write_volume};
 
 /// No `ACK` line for want of memory has more bytes, whatever its index and its command.

@@ -177,7 +177,7 @@ fn with<'w>(
         },
         Topic::Queue(name) => Ok(Command::Queue(queue::read(alloc, profile, name, words)?)),
         Topic::Finding(name) => Ok(Command::Finding(finding::read(alloc, profile, name, words)?)),
-        Topic::Lists(name) => Ok(Command::Lists(lists::read(name, words)?)),
+        Topic::Lists(name) => Ok(Command::Lists(lists::read(profile, name, words)?)),
         Topic::Stickers => Ok(Command::Stickers(sticker::read(words)?)),
         Topic::Messages(name) => Ok(Command::Messages(messages::read(name, words)?)),
         Topic::Playing(name) => Ok(Command::Playing(playing::read(name, words)?)),

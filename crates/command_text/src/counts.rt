@@ -3,7 +3,7 @@ ghost use Rattle.std.specs.Prelude.{◌≡◌};
 ghost use Rattle.std.specs.Option.{option_map};
 ghost use Rattle.std.specs.Result.{result_map_both};
 ghost use Rattle.command_text.specs.Counts.{no_argument, optional_argument, one_argument, one_or_two, two_arguments, three_arguments};
-ghost use Rattle.command_text.specs.Counts.{one_to_three, one_and_more, unless_minus_one};
+ghost use Rattle.command_text.specs.Counts.{one_to_three, one_and_more, two_or_three, unless_minus_one};
 
 use crate::refusal::CommandRefusal;
 use filter_expr::LineWord;
@@ -58,6 +58,20 @@ pub(crate) fn two<'w>(words: &'w [LineWord<'_>]) -> Result<(&'w [u8], &'w [u8]),
 {
     match words {
         [first, second] => Ok((first.bytes(), second.bytes())),
+        _ => Err(CommandRefusal::WrongCount),
+    }
+}
+
+/// Two arguments, and another if it is there.
+pub(crate) fn two_or_three<'w>(
+    words: &'w [LineWord<'_>],
+) -> Result<(&'w [u8], (&'w [u8], Option<&'w [u8]>)), CommandRefusal>
+    ensures { result_map_both (λ x. (x.0.now, (x.1.0.now, option_map (λ word. word.now) x.1.1))) (λ refusal. refusal) result
+        ≡ two_or_three words.now }
+{
+    match words {
+        [first, second] => Ok((first.bytes(), (second.bytes(), None))),
+        [first, second, third] => Ok((first.bytes(), (second.bytes(), Some(third.bytes())))),
         _ => Err(CommandRefusal::WrongCount),
     }
 }

@@ -19,8 +19,9 @@ ghost use Rattle.command_text.specs.Words.{AreWordsOfLine, words_of};
 ghost use Rattle.filter_expr.specs.Words.{Refusal as FilterRefusal, filter_of};
 ghost use Rattle.command_text.specs.BadFilters.{IsRefusedSo};
 ghost use Rattle.command_text.specs.Counts.{Word};
-ghost use Rattle.command_text.specs.Finding.{find_of, find_add_of};
-ghost use Rattle.command_text.specs.Search.{Parts, ArePartedSo, IsAnswer, found_by, added_by};
+ghost use Rattle.command_text.specs.Finding.{filter_alone, find_of, find_add_of};
+ghost use Rattle.command_text.specs.Search.{Parts, ArePartedSo, IsAnswer, IsAnswerAlone, found_by, added_by};
+ghost use Rattle.filter_expr.specs.Tree.{Tree};
 ghost use Rattle.command_text.specs.Names.{name_text, all_names, is_known, named};
 ghost use Rattle.command_text.specs.Refusals.{name_of_refusal};
 ghost use Rattle.command_text.specs.Reading.{line_reading, name_of_line, want_of_memory};
@@ -53,6 +54,13 @@ pub fn searches_have_one_reading()
         (find_of profile case words ≡ answer) ↔ IsAnswer profile false (found_by profile case) words answer }
     ensures added { (profile : Profile) (case : Case) (words : List Word) (answer : Result FindingCommand CommandRefusal) →
         (find_add_of profile case words ≡ answer) ↔ IsAnswer profile true (added_by profile case) words answer }
+{}
+
+/// The words of a filter behind which nothing stands, as those of `count`, are an expression or pairs, in the wide profile expressions
+/// and pairs in any order, and are read as such; other words are a wrong count.
+pub fn filters_alone_have_one_reading()
+    ensures { (profile : Profile) (words : List Word) (answer : Result Tree CommandRefusal) →
+        (filter_alone profile words ≡ answer) ↔ IsAnswerAlone profile words answer }
 {}
 
 /// Where words are no filter, one word is the fault, and whatever stands behind it, they are refused in the same way and at the

@@ -40,6 +40,7 @@ pub enum CommandName {
     ListTag,
     ListAll,
     ListAllInfo,
+    ListFiles,
     ListMounts,
     ListNeighbors,
     ListPartitions,

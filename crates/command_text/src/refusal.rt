@@ -185,6 +185,8 @@ pub enum CommandRefusal {
     PlaylistExists,
     /// A job already updates the database.
     AlreadyUpdating,
+    /// As many jobs wait as may.
+    UpdatesFull,
     /// The queue would have more entries than it may.
     QueueFull,
     /// Fewer ids are left than entries would be added.
@@ -227,7 +229,7 @@ impl CommandRefusal {
             | CommandRefusal::NoSuchSticker => AckCode::NoExist,
             CommandRefusal::NotPlaying | CommandRefusal::NoCurrentSong => AckCode::PlayerSync,
             CommandRefusal::PlaylistExists => AckCode::Exist,
-            CommandRefusal::AlreadyUpdating => AckCode::UpdateAlready,
+            CommandRefusal::AlreadyUpdating | CommandRefusal::UpdatesFull => AckCode::UpdateAlready,
             CommandRefusal::QueueFull | CommandRefusal::IdsSpent | CommandRefusal::PlaylistsFull =>
                 AckCode::PlaylistMax,
             CommandRefusal::StickersFull
@@ -239,8 +241,8 @@ impl CommandRefusal {
     }
 
     /// The number of the refusal. None for the two of command lists, for a relative place without a current song, for a job
-    /// that runs already, for a request that is too large, for what the daemon isn't set up with, for tags that aren't named so,
-    /// and for messages.
+    /// that runs already, for one too many that would wait, for a request that is too large, for what the daemon isn't set up
+    /// with, for tags that aren't named so, and for messages.
     pub fn number(&self) -> Option<u8>
         ensures { result ≡ command_number_of self.now }
     {
@@ -249,6 +251,7 @@ impl CommandRefusal {
             | CommandRefusal::NotInList
             | CommandRefusal::NoCurrentSong
             | CommandRefusal::AlreadyUpdating
+            | CommandRefusal::UpdatesFull
             | CommandRefusal::RequestTooLarge
             | CommandRefusal::Setup(_)
             | CommandRefusal::Tags(_)

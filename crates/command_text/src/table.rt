@@ -170,6 +170,12 @@ const ROWS: &[Row] = &[
         Named,
     ),
     (
+        CommandName::ListFiles,
+        "listfiles",
+        Database(DatabaseName::ListFiles),
+        Wide,
+    ),
+    (
         CommandName::ListMounts,
         "listmounts",
         Setup(SetupName::ListMounts),

@@ -35,6 +35,7 @@ pub(crate) enum DatabaseName {
     Commands,
     ListAll,
     ListAllInfo,
+    ListFiles,
     ListInfo,
     NotCommands,
     Rescan,

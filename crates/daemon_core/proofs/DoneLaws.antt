@@ -1,6 +1,7 @@
 -- What holds of all that a command may do holds of what it did.
-use Rattle.std.proofs.Common.{◌≡◌, ℕ, ◌+◌, ◌≤◌, Bool, true, false, List, length, Option, Some, None, cond, Result, Ok, Err, refl, subst}
-use Rattle.std.proofs.Common.{ap}
+use Rattle.std.proofs.Common.{◌≡◌, ℕ, ◌+◌, ◌≤◌, Bool, true, false, List, ◌++◌, length, Option, Some, None, cond, Result, Ok, Err, refl, subst}
+use Rattle.std.proofs.Common.{◌∙◌, ap, length-append, arith}
+use Rattle.std.proofs.lemmas.Grind.{flat_map-append}
 use Rattle.std.specs.Prelude.{nat_le}
 use Rattle.std.proofs.lemmas.Bool.{leb-true}
 use Rattle.client_messages.specs.declared.listener.Listener.{Listener}
@@ -16,12 +17,17 @@ use Rattle.command_text.specs.declared.refusal.CommandRefusal.TheVariants.{Reque
 use Rattle.command_text.specs.declared.refusal.Refusal.{Refusal}
 use Rattle.command_text.specs.declared.refusal.Refusal.TheVariants.{OfCommand}
 use Rattle.machine_core.specs.Command.{meaning}
+use Rattle.machine_core.specs.Keeping.{keep_ops, keeps, kept}
 use Rattle.machine_core.specs.Looks.{looks_of, max_looks, weighed}
 use Rattle.machine_core.specs.Meaning.{Meaning, Meant}
-use Rattle.machine_core.specs.Size.{max_request_bytes, within}
+use Rattle.machine_core.specs.Size.{longest_keep, max_request_bytes, room_by, within, within_room}
 use Rattle.machine_core.specs.State.{MachineState}
+use Rattle.machine_core.proofs.KeepingLaws.{keep_room}
+use Rattle.machine_core.proofs.KeptLaws.{kept_is}
 use Rattle.profile.specs.declared.profile.Profile.{Profile}
+use Rattle.profile.specs.declared.profile.Profile.TheVariants.{Named, Wide}
 use Rattle.state_codec.specs.Spelling.{ops_bytes}
+use Rattle.state_codec.specs.SpellingOps.{op_bytes}
 use Rattle.daemon_core.specs.Run.{Did, Goes, Refuses, Ends, Spent, attempted, did_of, done_of, either_does, ending_of, machine_does}
 use Rattle.daemon_core.specs.Run.{done_by, performed, read_and_performed, talk_does, talk_done, unless_it_ends, within_both}
 use Rattle.daemon_core.specs.Talk.{Talk, talk_of, talked}
@@ -54,11 +60,32 @@ light : (meant : Meant) (x : Meaning) (few : Bool) → cond few meant (Err Reque
 light meant x true h = h
 light meant x false h = cc
 
+-- with room to keep the player's place
+room_ok : (profile : Profile) (size : ℕ) (meant : Meant) (x : Meaning) → within_room profile size meant ≡ Ok x →
+    (meant ≡ Ok x) × Fits profile (size + room_by profile) x
+room_ok Named size meant x h =
+    let parts = within_ok Named size meant x h in
+    let fits : size + length (ops_bytes Named x.ops) ≤ max_request_bytes = parts.1 in (parts.0, omega (arith, fits))
+room_ok Wide size meant x h = within_ok Wide (size + longest_keep) meant x
+    (light (within Wide (size + longest_keep) meant) x (nat_le (size + longest_keep) max_request_bytes) h)
+
+keeps_fit : (size : ℕ) (m : MachineState) (x : Meaning) → Fits m.saved.profile (size + room_by m.saved.profile) x →
+    Fits m.saved.profile size (keeps m x)
+keeps_fit size m x fits =
+    let p = m.saved.profile in
+    let bytes : length (ops_bytes p (x.ops ++ keep_ops m x.after)) ≡ length (ops_bytes p x.ops) + length (ops_bytes p (keep_ops m x.after)) =
+    ap length (flat_map-append (op_bytes p) x.ops (keep_ops m x.after))
+    ∙ length-append (ops_bytes p x.ops) (ops_bytes p (keep_ops m x.after)) in
+    omega (arith, bytes, keep_room m x.after, fits)
+
 both_ok : (spent : Spent) (command : Command) (m : MachineState) (x : Meaning) → within_both spent command m ≡ Ok x →
-    (meaning spent.tags command m ≡ Ok x) × Fits m.saved.profile spent.size x
+    (kept m (meaning spent.tags command m) ≡ Ok x) × Fits m.saved.profile spent.size x
 both_ok spent command m x h =
-    let parts = within_ok m.saved.profile spent.size (weighed spent.looks (looks_of command m) (meaning spent.tags command m)) x h in
-    (light (meaning spent.tags command m) x (nat_le (spent.looks + looks_of command m) max_looks) parts.0, parts.1)
+    let y = kept_is m (within_room m.saved.profile spent.size (weighed spent.looks (looks_of command m) (meaning spent.tags command m))) x h in
+    let parts = room_ok m.saved.profile spent.size (weighed spent.looks (looks_of command m) (meaning spent.tags command m)) y.0 y.1 in (
+      ap (kept m) (light (meaning spent.tags command m) y.0 (nat_le (spent.looks + looks_of command m) max_looks) parts.0) ∙ ap says_so y.2,
+      subst (Fits m.saved.profile spent.size) y.2 (keeps_fit spent.size m y.0 parts.1),
+    )
 
 -- a command of the machine, and one of messages
 machine_way : (Q : Did → Type 0) (name : CommandName) (m : MachineState) (messages : List Listener) (meant : Meant) →
@@ -91,7 +118,8 @@ unless_way Q (Some ending) did ends h = ends ending
 
 -- what is known of a command that goes well
 abbrev pub OfMeaning : (Did → Type 0) → Spent → MachineState → Type 0
-OfMeaning Q spent m = (command : Command) (x : Meaning) → meaning spent.tags command m ≡ Ok x → Fits m.saved.profile spent.size x →
+OfMeaning Q spent m = (command : Command) (x : Meaning) → kept m (meaning spent.tags command m) ≡ Ok x →
+    Fits m.saved.profile spent.size x →
     Q (Goes (done_of m spent.messages x))
 
 abbrev pub OfTalk : (Did → Type 0) → ℕ → Spent → MachineState → Type 0

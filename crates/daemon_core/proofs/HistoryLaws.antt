@@ -12,7 +12,6 @@ use Rattle.idle_masks.specs.Subsystems.{contains, none, union, intersection, is_
 use Rattle.idle_masks.specs.Watched.{newcomer, watched, left, told_to_wait, with_waiting, grown, due, report_of, reports_of}
 use Rattle.idle_masks.specs.Watched.{reported}
 use Rattle.idle_masks.specs.Watched.{after_reports}
-use Rattle.idle_masks.specs.declared.ready.Report.{Report}
 use Rattle.idle_masks.specs.declared.subsystem.Subsystems.{Subsystems}
 use Rattle.idle_masks.specs.declared.watch.Watched.{Watched}
 use Rattle.state_codec.specs.SavedState.{SavedState}
@@ -23,6 +22,7 @@ use Rattle.daemon_core.specs.Run.{Ran, ran}
 use Rattle.daemon_core.specs.Session.{Acted, of_ran, runs, output, happened}
 use Rattle.daemon_core.specs.State.{State}
 use Rattle.machine_core.specs.Happening.{Happening}
+use Rattle.machine_core.specs.Keeping.{kept_event, when_kept, when_resumed}
 use Rattle.machine_core.specs.Reports.{when_fed, when_ended, when_broken}
 use Rattle.machine_core.specs.Scanning.{when_found, when_scanned}
 use Rattle.daemon_core.specs.Step.{begun, connects_client, asked, asked_waiting, requested_by, waiting_of, acted, told_to, step}
@@ -218,14 +218,18 @@ keeps_acted earlier s (events.Gone c) refused rises agree =
     let k = keeps_left earlier c s.clients rises agree in record { rises = k.0; agree = k.1; quiet = λ _ _. refl }
 keeps_acted earlier s (events.Fed ticket frames) refused rises agree =
     keeps_happened earlier s (when_fed ticket frames s.machine) rises agree
-keeps_acted earlier s (events.Ended ticket) refused rises agree = keeps_happened earlier s (when_ended ticket s.machine) rises agree
+keeps_acted earlier s (events.Ended ticket) refused rises agree =
+    keeps_happened earlier s (kept_event s.machine (when_ended ticket s.machine)) rises agree
 keeps_acted earlier s (events.Broken ticket cause) refused rises agree =
-    keeps_happened earlier s (when_broken ticket cause s.machine) rises agree
+    keeps_happened earlier s (kept_event s.machine (when_broken ticket cause s.machine)) rises agree
 keeps_acted earlier s (events.Batch job changes) refused rises agree =
-    keeps_happened earlier s (when_found job changes s.machine) rises agree
+    keeps_happened earlier s (kept_event s.machine (when_found job changes s.machine)) rises agree
 keeps_acted earlier s (events.ScanDone job) refused rises agree = keeps_happened earlier s (when_scanned job s.machine) rises agree
 keeps_acted earlier s (events.Clock time) refused rises agree =
     record { rises = rises; agree = agree; quiet = λ d e. absurd (false≢true e) }
+keeps_acted earlier s (events.Keep ticket) refused rises agree = keeps_happened earlier s (when_kept ticket s.machine) rises agree
+keeps_acted earlier s (events.Resume plays) refused rises agree =
+    keeps_happened earlier s (when_resumed plays s.machine) rises agree
 
 reported_number : (changed : Subsystems) (w : Watched) → let v = reported (grown changed w) in v.client ≡ w.client
 reported_number changed w = client-reported (grown changed w) (is_empty (due (grown changed w)))

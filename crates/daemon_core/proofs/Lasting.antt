@@ -11,6 +11,7 @@ use Rattle.idle_masks.specs.Watched.{watched}
 use Rattle.idle_masks.specs.declared.subsystem.Subsystems.{Subsystems}
 use Rattle.idle_masks.specs.declared.watch.Watched.{Watched}
 use Rattle.machine_core.specs.Command.{meaning}
+use Rattle.machine_core.specs.Keeping.{kept, kept_event, when_kept, when_resumed}
 use Rattle.machine_core.specs.Meaning.{Meaning}
 use Rattle.machine_core.specs.Reports.{when_broken, when_ended, when_fed}
 use Rattle.machine_core.specs.Scanning.{when_found, when_scanned}
@@ -35,15 +36,18 @@ use Rattle.daemon_core.specs.declared.outcome.Ending.TheVariants.{Answered, Clos
 
 -- what each command, each report of the output, each event of a scan and each of a clock keeps
 pub record IsKept (P : MachineState → Type 0) : Type 0 where
-  pub command : (mask : TagMask) (command : Command) (m : MachineState) (x : Meaning) → P m → meaning mask command m ≡ Ok x → P x.after
+  pub command : (mask : TagMask) (command : Command) (m : MachineState) (x : Meaning) → P m
+      → kept m (meaning mask command m) ≡ Ok x → P x.after
   pub fed : (ticket frames : ℕ) (m : MachineState) → P m → P (when_fed ticket frames m).after
-  pub ended : (ticket : ℕ) (m : MachineState) → P m → P (when_ended ticket m).after
-  pub broken : (ticket : ℕ) (cause : BrokenCause) (m : MachineState) → P m → P (when_broken ticket cause m).after
-  pub found : (job : ℕ) (changes : List RowChange) (m : MachineState) → P m → P (when_found job changes m).after
+  pub ended : (ticket : ℕ) (m : MachineState) → P m → P (kept_event m (when_ended ticket m)).after
+  pub broken : (ticket : ℕ) (cause : BrokenCause) (m : MachineState) → P m → P (kept_event m (when_broken ticket cause m)).after
+  pub found : (job : ℕ) (changes : List RowChange) (m : MachineState) → P m → P (kept_event m (when_found job changes m)).after
   pub scanned : (job : ℕ) (m : MachineState) → P m → P (when_scanned job m).after
   pub clocked : (time : ClockTime) (m : MachineState) → P m → P (told_time time m)
+  pub kept_at : (ticket : ℕ) (m : MachineState) → P m → P (when_kept ticket m).after
+  pub resumed : (plays : Bool) (m : MachineState) → P m → P (when_resumed plays m).after
 
-module _ (P : MachineState → Type 0) (kept : IsKept P) where
+module _ (P : MachineState → Type 0) (always : IsKept P) where
   abbrev DidKeeps : MachineState → Did → Type 0
   DidKeeps m (Goes x) = P m → P x.after
   DidKeeps m (Refuses refusal) = Unit {0}
@@ -53,7 +57,7 @@ module _ (P : MachineState → Type 0) (kept : IsKept P) where
   line_lasts : (c : ℕ) (place : Place) (spent : Spent) (line : List ℕ) (m : MachineState) → DidKeeps m (attempted c place spent line m)
   line_lasts c place spent line m =
       line_is (DidKeeps m) c place spent line m (λ ending. tt) (λ refusal. tt) (λ command talk is h. h)
-      (λ command x means fits h. kept.command spent.tags command m x h means)
+      (λ command x means fits h. always.command spent.tags command m x h means)
 
   -- the commands of a request
   abbrev RanKeeps : MachineState → Ran → Type 0
@@ -126,12 +130,14 @@ module _ (P : MachineState → Type 0) (kept : IsKept P) where
   acted_lasts s (events.Connect c) refused = connect_lasts c s (watched s.clients c)
   acted_lasts s (events.Request c request) refused = requested_lasts c refused s request (waiting_of (watched s.clients c))
   acted_lasts s (events.Gone c) refused = λ h. h
-  acted_lasts s (events.Fed ticket frames) refused = kept.fed ticket frames s.machine
-  acted_lasts s (events.Ended ticket) refused = kept.ended ticket s.machine
-  acted_lasts s (events.Broken ticket cause) refused = kept.broken ticket cause s.machine
-  acted_lasts s (events.Batch job changes) refused = kept.found job changes s.machine
-  acted_lasts s (events.ScanDone job) refused = kept.scanned job s.machine
-  acted_lasts s (events.Clock time) refused = kept.clocked time s.machine
+  acted_lasts s (events.Fed ticket frames) refused = always.fed ticket frames s.machine
+  acted_lasts s (events.Ended ticket) refused = always.ended ticket s.machine
+  acted_lasts s (events.Broken ticket cause) refused = always.broken ticket cause s.machine
+  acted_lasts s (events.Batch job changes) refused = always.found job changes s.machine
+  acted_lasts s (events.ScanDone job) refused = always.scanned job s.machine
+  acted_lasts s (events.Clock time) refused = always.clocked time s.machine
+  acted_lasts s (events.Keep ticket) refused = always.kept_at ticket s.machine
+  acted_lasts s (events.Resume plays) refused = always.resumed plays s.machine
 
   pub lasts : (saved : SavedState) → P (started saved) → (history : List Entry) → P (replay saved history).machine
   unfolding replay step

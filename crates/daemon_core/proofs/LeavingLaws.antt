@@ -16,6 +16,7 @@ use Rattle.idle_masks.specs.Watched.{newcomer, watched, joined, left, with_waiti
 use Rattle.idle_masks.specs.declared.subsystem.Subsystems.{Subsystems}
 use Rattle.idle_masks.specs.declared.watch.Watched.{Watched}
 use Rattle.machine_core.specs.Happening.{Happening}
+use Rattle.machine_core.specs.Keeping.{kept_event, when_kept, when_resumed}
 use Rattle.machine_core.specs.Reports.{when_fed, when_ended, when_broken}
 use Rattle.machine_core.specs.Scanning.{when_found, when_scanned}
 use Rattle.state_codec.specs.SavedState.{SavedState}
@@ -269,11 +270,13 @@ acted_leaves s (events.Connect c) refused rises = connect_leaves c s (watched s.
 acted_leaves s (events.Request c request) refused rises = requested_leaves c refused s request (watched s.clients c) rises refl
 acted_leaves s (events.Gone c) refused rises = all_stay (left s.clients c) (acted s (events.Gone c) refused) refl refl
 acted_leaves s (events.Fed ticket frames) refused rises = happened_leaves s (when_fed ticket frames s.machine)
-acted_leaves s (events.Ended ticket) refused rises = happened_leaves s (when_ended ticket s.machine)
-acted_leaves s (events.Broken ticket cause) refused rises = happened_leaves s (when_broken ticket cause s.machine)
-acted_leaves s (events.Batch job changes) refused rises = happened_leaves s (when_found job changes s.machine)
+acted_leaves s (events.Ended ticket) refused rises = happened_leaves s (kept_event s.machine (when_ended ticket s.machine))
+acted_leaves s (events.Broken ticket cause) refused rises = happened_leaves s (kept_event s.machine (when_broken ticket cause s.machine))
+acted_leaves s (events.Batch job changes) refused rises = happened_leaves s (kept_event s.machine (when_found job changes s.machine))
 acted_leaves s (events.ScanDone job) refused rises = happened_leaves s (when_scanned job s.machine)
 acted_leaves s (events.Clock time) refused rises = all_stay s.clients (acted s (events.Clock time) refused) refl refl
+acted_leaves s (events.Keep ticket) refused rises = happened_leaves s (when_kept ticket s.machine)
+acted_leaves s (events.Resume plays) refused rises = happened_leaves s (when_resumed plays s.machine)
 
 pub closed : (kept : SavedState) (history : List Entry) (entry : Entry) →
     (stepped (replay kept history) entry).closes ≡ missing
@@ -342,6 +345,8 @@ acted_closes s (events.Broken ticket cause) refused h = refl
 acted_closes s (events.Batch job changes) refused h = refl
 acted_closes s (events.ScanDone job) refused h = refl
 acted_closes s (events.Clock time) refused h = refl
+acted_closes s (events.Keep ticket) refused h = refl
+acted_closes s (events.Resume plays) refused h = refl
 
 pub own : (s : State) (event : Event) (refused : Option ℕ) → (step s event refused).ended ≡ false →
     ClosesNoOther event (step s event refused).closes

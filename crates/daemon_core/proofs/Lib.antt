@@ -19,6 +19,7 @@ mod LeavingLaws
 mod UnchangedLaws
 mod Lasting
 mod SoundLaws
+mod RestartLaws
 mod SongForms
 mod SongLaws
 mod SeenLaws

@@ -263,6 +263,8 @@ acted_connected s (events.Broken ticket cause) refused h = h
 acted_connected s (events.Batch job changes) refused h = h
 acted_connected s (events.ScanDone job) refused h = h
 acted_connected s (events.Clock time) refused h = h
+acted_connected s (events.Keep ticket) refused h = h
+acted_connected s (events.Resume plays) refused h = h
 
 pub connected : (kept : SavedState) (history : List Entry) → AreConnected (replay kept history).clients (replay kept history).messages
 unfolding replay step

@@ -98,6 +98,8 @@ acted_within s (events.Broken ticket cause) refused = omega arith
 acted_within s (events.Batch job changes) refused = omega arith
 acted_within s (events.ScanDone job) refused = omega arith
 acted_within s (events.Clock time) refused = omega arith
+acted_within s (events.Keep ticket) refused = omega arith
+acted_within s (events.Resume plays) refused = omega arith
 
 pub step_within : (s : State) (event : Event) (refused : Option ℕ) → let now = step s event refused in now.looks ≤ max_looks
 unfolding step

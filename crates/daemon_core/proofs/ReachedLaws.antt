@@ -121,6 +121,8 @@ acted_reaches s (events.Broken ticket cause) refused = inr refl
 acted_reaches s (events.Batch job changes) refused = inr refl
 acted_reaches s (events.ScanDone job) refused = inr refl
 acted_reaches s (events.Clock time) refused = inr refl
+acted_reaches s (events.Keep ticket) refused = inr refl
+acted_reaches s (events.Resume plays) refused = inr refl
 
 settles_reaches : (refused : Option ℕ) (a free : Acted) → ActReaches refused a free →
     (let now = settles a in now.refused_at ≡ refused) ⊎ (settles a ≡ settles free)
@@ -166,6 +168,8 @@ acted_names_none s (events.Broken ticket cause) = refl
 acted_names_none s (events.Batch job changes) = refl
 acted_names_none s (events.ScanDone job) = refl
 acted_names_none s (events.Clock time) = refl
+acted_names_none s (events.Keep ticket) = refl
+acted_names_none s (events.Resume plays) = refl
 
 pub step_names_none : (s : State) (event : Event) → (step s event None).refused_at ≡ None
 unfolding step

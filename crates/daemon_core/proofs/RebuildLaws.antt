@@ -15,6 +15,7 @@ use Rattle.idle_masks.specs.declared.subsystem.Subsystems.{Subsystems}
 use Rattle.idle_masks.specs.declared.watch.Watched.{Watched}
 use Rattle.machine_core.specs.Command.{meaning}
 use Rattle.machine_core.specs.Happening.{Happening}
+use Rattle.machine_core.specs.Keeping.{kept, kept_event, when_kept, when_resumed}
 use Rattle.machine_core.specs.Meaning.{Meaning}
 use Rattle.machine_core.specs.Reports.{when_fed, when_ended, when_broken}
 use Rattle.machine_core.specs.Scanning.{when_found, when_scanned}
@@ -43,7 +44,7 @@ use Rattle.daemon_core.specs.declared.outcome.Ending.TheVariants.{Answered, Clos
 
 -- the ops of each command rebuild the saved half
 abbrev pub CommandsRebuild : Type 0
-CommandsRebuild = (mask : TagMask) (command : Command) (m : MachineState) (x : Meaning) → meaning mask command m ≡ Ok x →
+CommandsRebuild = (mask : TagMask) (command : Command) (m : MachineState) (x : Meaning) → kept m (meaning mask command m) ≡ Ok x →
     all_applied x.ops m.saved ≡ Some x.after.saved
 
 -- what was done is rebuilt by its ops, which fit
@@ -179,11 +180,16 @@ acted_rebuilds law s (events.Request c request) refused reported =
     requested_rebuilds law c refused s request (waiting_of (watched s.clients c))
 acted_rebuilds law s (events.Gone c) refused reported = record { state = refl; fits = none_fits s.machine }
 acted_rebuilds law s (events.Fed ticket frames) refused reported = happened_rebuilds s (when_fed ticket frames s.machine) reported
-acted_rebuilds law s (events.Ended ticket) refused reported = happened_rebuilds s (when_ended ticket s.machine) reported
-acted_rebuilds law s (events.Broken ticket cause) refused reported = happened_rebuilds s (when_broken ticket cause s.machine) reported
-acted_rebuilds law s (events.Batch job changes) refused reported = happened_rebuilds s (when_found job changes s.machine) reported
+acted_rebuilds law s (events.Ended ticket) refused reported =
+    happened_rebuilds s (kept_event s.machine (when_ended ticket s.machine)) reported
+acted_rebuilds law s (events.Broken ticket cause) refused reported =
+    happened_rebuilds s (kept_event s.machine (when_broken ticket cause s.machine)) reported
+acted_rebuilds law s (events.Batch job changes) refused reported =
+    happened_rebuilds s (kept_event s.machine (when_found job changes s.machine)) reported
 acted_rebuilds law s (events.ScanDone job) refused reported = happened_rebuilds s (when_scanned job s.machine) reported
 acted_rebuilds law s (events.Clock time) refused reported = record { state = refl; fits = none_fits s.machine }
+acted_rebuilds law s (events.Keep ticket) refused reported = happened_rebuilds s (when_kept ticket s.machine) reported
+acted_rebuilds law s (events.Resume plays) refused reported = happened_rebuilds s (when_resumed plays s.machine) reported
 
 pub step_rebuilds : (law : CommandsRebuild) (s : State) (event : Event) (refused : Option ℕ) → IsReported event s.machine →
     let r = step s event refused in WholeRebuilt s.machine r.after.machine r.ops

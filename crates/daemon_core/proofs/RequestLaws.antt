@@ -2,7 +2,7 @@
 use Rattle.std.proofs.Common.{◌≡◌, ℕ, suc, ◌+◌, ◌≤◌, ◌<◌, Bool, true, false, ◌||◌, List, [], ◌∷◌, ◌++◌, length, Option, Some, None, cond}
 use Rattle.std.proofs.Common.{refl, sym, ◌∙◌, ap, subst, arith, append_assoc, eq-eqb}
 use Rattle.std.specs.Prelude.{Result, Ok, Err, IfOk, IfSome, nat_le}
-use Rattle.std.proofs.lemmas.Bool.{le-leb, ne_eqb}
+use Rattle.std.proofs.lemmas.Bool.{ne_eqb}
 use Rattle.std.proofs.lemmas.List.{append-nil}
 use Rattle.command_text.specs.Answer.{ok, ack}
 use Rattle.command_text.specs.Reading.{line_words, command_of, line_reading, command_in, name_of_line, want_of_memory, Gives, GivesWords}
@@ -17,7 +17,6 @@ use Rattle.command_text.specs.declared.command.settings.SettingsCommand.{Setting
 use Rattle.command_text.specs.declared.command.settings.SettingsCommand.TheVariants as settings
 use Rattle.command_text.specs.declared.place.Place.{Place}
 use Rattle.command_text.specs.declared.refusal.CommandRefusal.{CommandRefusal}
-use Rattle.command_text.specs.declared.refusal.CommandRefusal.TheVariants.{RequestTooLarge}
 use Rattle.command_text.specs.declared.refusal.ReadError.{ReadError}
 use Rattle.command_text.specs.declared.refusal.ReadError.TheVariants as errors
 use Rattle.command_text.specs.declared.refusal.Refusal.{Refusal}
@@ -29,9 +28,10 @@ use Rattle.machine_core.specs.Changed.{changed}
 use Rattle.machine_core.specs.Command.{meaning}
 use Rattle.machine_core.specs.Looks.{looked, looks_of, max_looks, settings_looks, weighed}
 use Rattle.machine_core.specs.Meaning.{Meaning, Meant}
-use Rattle.machine_core.specs.Size.{max_request_bytes, within}
+use Rattle.machine_core.specs.Keeping.{kept}
+use Rattle.machine_core.specs.Size.{within_room}
 use Rattle.machine_core.specs.State.{MachineState}
-use Rattle.machine_core.specs.Work.{AddsNothing, AddsText, Failed, HasRoom, IsRefusalOf, Performs, Went, ack_room}
+use Rattle.machine_core.specs.Work.{AddsNothing, AddsText, FailedKept, HasRoom, IsKeptRefusalOf, PerformsKept, WentKept, ack_room}
 use Rattle.machine_core.specs.declared.work.Failure.{Failure}
 use Rattle.machine_core.specs.declared.work.Failure.TheVariants as failures
 use Rattle.machine_core.specs.declared.work.Work.{Work}
@@ -135,11 +135,6 @@ pub performed_refuses : (c : ℕ) (spent : Spent) (named : NamedCommand) (m : Ma
     performed c spent named m ≡ Refuses (OfCommand named.name refusal)
 performed_refuses c spent named m refusal is same = performed_did c spent named m (Err refusal) is same
 
-within_limit : (profile : Profile) (size : ℕ) (x : Meaning) → size + length (ops_bytes profile x.ops) ≤ max_request_bytes
-    → within profile size (Ok x) ≡ Ok x
-within_limit profile size x fits =
-    ap (λ b. cond b (Ok x) (Err RequestTooLarge)) (le-leb (size + length (ops_bytes profile x.ops)) max_request_bytes fits)
-
 -- a command that is none of messages does what it means
 machine_is : (c : ℕ) (spent : Spent) (command : Command) (m : MachineState) (meant : Meant) → talk_of c spent.messages command ≡ None →
     within_both spent command m ≡ meant → done_by c spent command m ≡ machine_does m spent.messages meant
@@ -149,15 +144,15 @@ machine_is c spent command m meant other same =
 
 pub machine_performs : (c : ℕ) (command : Command) (s t : MachineState) (talks : Talks) (before after : Work) (looks : ℕ) (tags : TagMask)
     (set : Subsystems) → talk_of c talks.messages command ≡ None →
-    Went s.saved.profile (weighed looks (looks_of command s) (meaning tags command s)) t before after → set ≡ changed s t →
+    WentKept s.saved.profile (kept s (within_room s.saved.profile before.size (weighed looks (looks_of command s)
+    (meaning tags command s)))) t before after → set ≡ changed s t →
     IsPerformed (done_by c (spent_of before.size looks tags talks.messages) command s) s t talks talks before after set
 machine_performs c command s t talks before after looks tags set other went same =
     let x : Meaning = went.meaning in
     let a = went.ops in
     record {
       what = done_of s talks.messages x;
-      is = machine_is c (spent_of before.size looks tags talks.messages) command s (Ok x) other
-          (ap (within s.saved.profile before.size) went.means ∙ within_limit s.saved.profile before.size x (omega (arith, a.size, a.fits)));
+      is = machine_is c (spent_of before.size looks tags talks.messages) command s (Ok x) other went.means;
       stands = went.stands;
       messages = refl;
       notified = sym (append-nil talks.notified.items);
@@ -170,15 +165,15 @@ machine_performs c command s t talks before after looks tags set other went same
 
 machine_refused : (c : ℕ) (command : Command) (s : MachineState) (talks : Talks) (size looks : ℕ) (tags : TagMask) (failure : Failure) →
     talk_of c talks.messages command ≡ None →
-    IsRefusalOf s.saved.profile (weighed looks (looks_of command s) (meaning tags command s)) size failure →
+    IsKeptRefusalOf s.saved.profile (weighed looks (looks_of command s) (meaning tags command s)) size failure →
     IsRefusalBy (done_by c (spent_of size looks tags talks.messages) command s) failure
 machine_refused c command s talks size looks tags (failures.Refused refusal) other h =
-    machine_is c (spent_of size looks tags talks.messages) command s (Err refusal) other h
+    machine_is c (spent_of size looks tags talks.messages) command s (Err refusal) other (ap (kept s) h)
 machine_refused c command s talks size looks tags failures.NoMemory other h = tt
 
 pub machine_fails : (c : ℕ) (command : Command) (s t : MachineState) (talks : Talks) (before after : Work) (looks : ℕ) (tags : TagMask)
     (failure : Failure) → talk_of c talks.messages command ≡ None →
-    Failed (weighed looks (looks_of command s) (meaning tags command s)) s t before after failure →
+    FailedKept (weighed looks (looks_of command s) (meaning tags command s)) s t before after failure →
     IsNotPerformed (done_by c (spent_of before.size looks tags talks.messages) command s) s t talks talks before after failure
 machine_fails c command s t talks before after looks tags failure other failed = record {
   stands = failed.state;
@@ -189,7 +184,7 @@ machine_fails c command s t talks before after looks tags failure other failed =
 
 pub machine_runs : (c : ℕ) (command : Command) (s t : MachineState) (talks : Talks) (before after : Work) (looks : ℕ) (tags : TagMask)
     (r : Result Subsystems Failure) → talk_of c talks.messages command ≡ None →
-    Performs (weighed looks (looks_of command s) (meaning tags command s)) s t before after r →
+    PerformsKept (weighed looks (looks_of command s) (meaning tags command s)) s t before after r →
     IfOk r (λ set. set ≡ changed s t) →
     RunsCommand (done_by c (spent_of before.size looks tags talks.messages) command s) s t talks talks before after r
 machine_runs c command s t talks before after looks tags (Ok set) other went same =

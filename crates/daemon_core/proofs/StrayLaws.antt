@@ -13,13 +13,15 @@ use Rattle.idle_masks.specs.declared.watch.Watched.{Watched}
 use Rattle.command_text.specs.declared.request.Request.{Request}
 use Rattle.machine_core.specs.Changed.{changed, same_state, same_playing, same_job, same_options}
 use Rattle.machine_core.specs.Followed.{current_row}
-use Rattle.machine_core.specs.Happening.{nothing_happens}
+use Rattle.machine_core.specs.Happening.{Happening, nothing_happens}
+use Rattle.machine_core.specs.Keeping.{keeps_place, kept_event, resumes}
 use Rattle.machine_core.specs.Reports.{when_fed, when_ended, when_broken, fed_in, happens, player_happens}
-use Rattle.machine_core.specs.Scanning.{is_running, finds, kept_changes, telling, ends_scan}
+use Rattle.machine_core.specs.Scanning.{is_running, finds, kept_changes, telling, ends_scan, when_found}
 use Rattle.machine_core.specs.State.{MachineState, settings_of}
 use Rattle.machine_core.specs.Steps.{steps}
 use Rattle.machine_core.specs.declared.clock.ClockTime.{ClockTime}
 use Rattle.machine_core.specs.declared.job.Job.{Job}
+use Rattle.machine_core.proofs.KeepingLaws.{kept_nothing}
 use Rattle.machine_core.proofs.SameParts.{lists_decide, stickers_decide, text_itself}
 use Rattle.play_queue.specs.declared.entry.Entry.{Entry as QueueEntry}
 use Rattle.player_core.specs.Ending.{ended_in, over}
@@ -243,6 +245,10 @@ asked_by_none : (c : ℕ) (refused : Option ℕ) (s : State) (request : Request)
 asked_by_none c refused s request None h = refl
 asked_by_none c refused s request (Some w) h = absurd (false≢true h)
 
+-- nothing that happens leaves nothing to keep
+kept_none : (s : State) (h : Happening) → h ≡ nothing_happens s.machine → happened s (kept_event s.machine h) ≡ nothing s
+kept_none s h none = ap (λ g. happened s (kept_event s.machine g)) none ∙ ap (happened s) (kept_nothing s.machine)
+
 acted_stray : (s : State) (event : Event) (refused : Option ℕ) → is_stray s event ≡ true → acted s event refused ≡ nothing s
 acted_stray s (events.Connect c) refused h = connect_again c s (watched s.clients c) h
 acted_stray s (events.Request c request) refused h = asked_by_none c refused s request (watched s.clients c) h
@@ -250,15 +256,22 @@ acted_stray s (events.Gone c) refused h =
     λ i. nothing (with_messages (with_masks (with_clients s (absent c s.clients h i)) (masks_absent (watched s.clients c) s.masks c h i))
     (messages_absent (watched s.clients c) s.messages c h i))
 acted_stray s (events.Fed ticket frames) refused h = ap (happened s) (fed_late s.machine ticket frames h)
-acted_stray s (events.Ended ticket) refused h = ap (happened s) (ended_late s.machine ticket h)
-acted_stray s (events.Broken ticket cause) refused h = ap (happened s) (broken_late s.machine ticket cause h)
+acted_stray s (events.Ended ticket) refused h = kept_none s (when_ended ticket s.machine) (ended_late s.machine ticket h)
+acted_stray s (events.Broken ticket cause) refused h =
+    kept_none s (when_broken ticket cause s.machine) (broken_late s.machine ticket cause h)
 acted_stray s (events.Batch job changes) refused h =
-    ap (λ b. happened s (cond b (finds (telling s.machine.saved.songs (kept_changes s.machine.saved.profile changes)) s.machine)
-    (nothing_happens s.machine)))
-    (not_running job s.machine h)
+    kept_none s (when_found job changes s.machine)
+    (ap (λ b. cond b (finds (telling s.machine.saved.songs (kept_changes s.machine.saved.profile changes)) s.machine)
+    (nothing_happens s.machine)) (not_running job s.machine h))
 acted_stray s (events.ScanDone job) refused h =
     ap (λ b. happened s (cond b (ends_scan s.machine) (nothing_happens s.machine))) (not_running job s.machine h)
 acted_stray s (events.Clock time) refused h = absurd (false≢true h)
+acted_stray s (events.Keep ticket) refused h =
+    ap (λ b. happened s (cond b (keeps_place s.machine) (nothing_happens s.machine)))
+    (late_counts s.machine.player.state s.machine.player.ticket ticket h)
+acted_stray s (events.Resume plays) refused h =
+    ap (λ b. happened s (cond b (resumes plays s.machine s.machine.saved.place) (nothing_happens s.machine)))
+    (not_false (s.machine.player.ticket == 0) h)
 
 -- a clock tells the time, and nobody is due
 pub clock_told : (kept : SavedState) (history : List Entry) (time : ClockTime) (refused : Option ℕ) →

@@ -1,5 +1,5 @@
 -- An event makes no op exactly where it changes nothing of what is saved, since a command, the end of a song and a batch do.
-use Rattle.std.proofs.Common.{◌≡◌, ℕ, suc, ◌+◌, ◌↔◌, Bool, true, false, List, [], ◌∷◌, ◌++◌, Option, Some, None, cond}
+use Rattle.std.proofs.Common.{◌≡◌, ℕ, suc, ◌+◌, ◌↔◌, Bool, true, false, List, [], ◌∷◌, ◌++◌, ◌==◌, Option, Some, None, cond}
 use Rattle.std.proofs.Common.{refl, sym, subst, ◌∙◌, ap}
 use Rattle.std.specs.Prelude.{Ok}
 use Rattle.std.proofs.lemmas.Bool.{false≢true}
@@ -15,7 +15,10 @@ use Rattle.idle_masks.specs.declared.subsystem.Subsystems.{Subsystems}
 use Rattle.idle_masks.specs.declared.watch.Watched.{Watched}
 use Rattle.machine_core.specs.Command.{meaning}
 use Rattle.machine_core.specs.Happening.{Happening, nothing_happens}
+use Rattle.machine_core.specs.Keeping.{kept, kept_event, resumes, when_kept, when_resumed}
 use Rattle.machine_core.specs.Meaning.{Meaning}
+use Rattle.machine_core.proofs.KeepingLaws.{kept_nothing}
+use Rattle.player_core.specs.Place.{PlaceState}
 use Rattle.player_core.specs.declared.failure.BrokenCause.{BrokenCause}
 use Rattle.machine_core.specs.Reports.{when_broken, when_ended}
 use Rattle.machine_core.specs.Scanning.{ends_scan, finds, is_running, kept_changes, telling, when_found, when_scanned}
@@ -38,19 +41,23 @@ use Rattle.daemon_core.specs.declared.outcome.Ending.TheVariants.{Answered, Clos
 
 -- what is known of a command, of the end of a song, and of a batch
 pub record MachineTells : Type 0 where
-  pub none : (mask : TagMask) (command : Command) (m : MachineState) (x : Meaning) → IsSavedState m.saved → meaning mask command m ≡ Ok x
-      → x.after.saved ≡ m.saved → x.ops ≡ []
-  pub same : (mask : TagMask) (command : Command) (m : MachineState) (x : Meaning) → meaning mask command m ≡ Ok x → x.ops ≡ []
-      → x.after.saved ≡ m.saved
+  pub none : (mask : TagMask) (command : Command) (m : MachineState) (x : Meaning) → IsSavedState m.saved
+      → kept m (meaning mask command m) ≡ Ok x → x.after.saved ≡ m.saved → x.ops ≡ []
+  pub same : (mask : TagMask) (command : Command) (m : MachineState) (x : Meaning)
+      → kept m (meaning mask command m) ≡ Ok x → x.ops ≡ [] → x.after.saved ≡ m.saved
   pub ended_none : (ticket : ℕ) (m : MachineState) → IsSavedState m.saved
-      → (when_ended ticket m).after.saved ≡ m.saved → (when_ended ticket m).ops ≡ []
-  pub ended_same : (ticket : ℕ) (m : MachineState) → (when_ended ticket m).ops ≡ [] → (when_ended ticket m).after.saved ≡ m.saved
+      → (kept_event m (when_ended ticket m)).after.saved ≡ m.saved → (kept_event m (when_ended ticket m)).ops ≡ []
+  pub ended_same : (ticket : ℕ) (m : MachineState) → (kept_event m (when_ended ticket m)).ops ≡ []
+      → (kept_event m (when_ended ticket m)).after.saved ≡ m.saved
   pub broken_none : (ticket : ℕ) (cause : BrokenCause) (m : MachineState) → IsSavedState m.saved
-      → (when_broken ticket cause m).after.saved ≡ m.saved → (when_broken ticket cause m).ops ≡ []
-  pub broken_same : (ticket : ℕ) (cause : BrokenCause) (m : MachineState) → (when_broken ticket cause m).ops ≡ []
-      → (when_broken ticket cause m).after.saved ≡ m.saved
+      → (kept_event m (when_broken ticket cause m)).after.saved ≡ m.saved → (kept_event m (when_broken ticket cause m)).ops ≡ []
+  pub broken_same : (ticket : ℕ) (cause : BrokenCause) (m : MachineState)
+      → (kept_event m (when_broken ticket cause m)).ops ≡ [] → (kept_event m (when_broken ticket cause m)).after.saved ≡ m.saved
   pub found : (job : ℕ) (changes : List RowChange) (m : MachineState) → is_running job m ≡ true
-      → ((when_found job changes m).ops ≡ [] ↔ telling m.saved.songs (kept_changes m.saved.profile changes) ≡ [])
+      → ((kept_event m (when_found job changes m)).ops ≡ [] ↔ telling m.saved.songs (kept_changes m.saved.profile changes) ≡ [])
+  pub kept_none : (ticket : ℕ) (m : MachineState) → IsSavedState m.saved
+      → (when_kept ticket m).after.saved ≡ m.saved → (when_kept ticket m).ops ≡ []
+  pub kept_same : (ticket : ℕ) (m : MachineState) → (when_kept ticket m).ops ≡ [] → (when_kept ticket m).after.saved ≡ m.saved
 
 -- it makes no op exactly where it leaves what is saved
 record Tells (Leaves : Type 0) (m : MachineState) (ops : List Op) : Type 0 where
@@ -159,7 +166,8 @@ connect_tells c s None = silent s.machine
 connect_tells c s (Some w) = silent s.machine
 
 found_tells : (known : MachineTells) (job : ℕ) (changes : List RowChange) (m : MachineState) →
-    let h = when_found job changes m in Tells (is_running job m ≡ true → telling m.saved.songs (kept_changes m.saved.profile changes)
+    let h = kept_event m (when_found job changes m) in Tells (is_running job m ≡ true
+    → telling m.saved.songs (kept_changes m.saved.profile changes)
     ≡ []) m h.ops
 found_tells known job changes m = record {
   none = λ saved leaves. of (is_running job m) refl leaves;
@@ -167,17 +175,28 @@ found_tells known job changes m = record {
 }
   where
     of : (b : Bool) → is_running job m ≡ b → (is_running job m ≡ true → telling m.saved.songs (kept_changes m.saved.profile changes) ≡ []) →
-        let h = when_found job changes m in h.ops ≡ []
+        let h = kept_event m (when_found job changes m) in h.ops ≡ []
     of true runs leaves = (known.found job changes m runs).1 (leaves runs)
     of false runs leaves =
-        ap (λ (b : Bool). let h : Happening = cond b (finds (telling m.saved.songs (kept_changes m.saved.profile changes)) m)
-        (nothing_happens m) in h.ops) runs
+        ap (λ (b : Bool). let h : Happening = kept_event m (cond b (finds (telling m.saved.songs (kept_changes m.saved.profile changes)) m)
+        (nothing_happens m)) in h.ops) runs ∙ ap (λ (h : Happening). h.ops) (kept_nothing m)
 
 scanned_tells : (job : ℕ) (m : MachineState) → let h = when_scanned job m in Tells (Unit {0}) m h.ops
 scanned_tells job m = of (is_running job m)
   where
     of : (b : Bool) → let h : Happening = cond b (ends_scan m) (nothing_happens m) in Tells (Unit {0}) m h.ops
     of true = silent m
+    of false = silent m
+
+resumed_tells : (plays : Bool) (m : MachineState) → let h = when_resumed plays m in Tells (Unit {0}) m h.ops
+resumed_tells plays m = of (m.player.ticket == 0)
+  where
+    from : (place : Option PlaceState) → let h : Happening = resumes plays m place in Tells (Unit {0}) m h.ops
+    from None = silent m
+    from (Some place) = silent m
+
+    of : (b : Bool) → let h : Happening = cond b (resumes plays m m.saved.place) (nothing_happens m) in Tells (Unit {0}) m h.ops
+    of true = from m.saved.place
     of false = silent m
 
 acted_tells : (known : MachineTells) (s : State) (event : Event) (refused : Option ℕ) →
@@ -194,6 +213,9 @@ acted_tells known s (events.Broken ticket cause) refused =
 acted_tells known s (events.Batch job changes) refused = found_tells known job changes s.machine
 acted_tells known s (events.ScanDone job) refused = scanned_tells job s.machine
 acted_tells known s (events.Clock time) refused = silent s.machine
+acted_tells known s (events.Keep ticket) refused =
+    record { none = known.kept_none ticket s.machine; same = known.kept_same ticket s.machine }
+acted_tells known s (events.Resume plays) refused = resumed_tells plays s.machine
 
 pub no_op : (known : MachineTells) (s : State) (event : Event) (refused : Option ℕ) → IsSavedState s.machine.saved
     → LeavesSaved s event refused → (step s event refused).ops ≡ []

@@ -1,6 +1,7 @@
 -- What holds of the ops of an event of the player or of a scan.
 use Rattle.std.specs.Prelude.{◌≡◌, ◌≤◌, length, Some}
 use Rattle.machine_core.specs.Happening.{Happening}
+use Rattle.machine_core.specs.Keeping.{kept_event, when_kept, when_resumed}
 use Rattle.machine_core.specs.Reports.{when_fed, when_ended, when_broken}
 use Rattle.machine_core.specs.Scanning.{when_found, when_scanned}
 use Rattle.machine_core.specs.Size.{max_request_bytes}
@@ -21,8 +22,10 @@ IsReported (events.Connect c) m = Unit {0}
 IsReported (events.Request c request) m = Unit {0}
 IsReported (events.Gone c) m = Unit {0}
 IsReported (events.Fed ticket frames) m = IsRebuilt m (when_fed ticket frames m)
-IsReported (events.Ended ticket) m = IsRebuilt m (when_ended ticket m)
-IsReported (events.Broken ticket cause) m = IsRebuilt m (when_broken ticket cause m)
-IsReported (events.Batch job changes) m = IsRebuilt m (when_found job changes m)
+IsReported (events.Ended ticket) m = IsRebuilt m (kept_event m (when_ended ticket m))
+IsReported (events.Broken ticket cause) m = IsRebuilt m (kept_event m (when_broken ticket cause m))
+IsReported (events.Batch job changes) m = IsRebuilt m (kept_event m (when_found job changes m))
 IsReported (events.ScanDone job) m = IsRebuilt m (when_scanned job m)
 IsReported (events.Clock time) m = Unit {0}
+IsReported (events.Keep ticket) m = IsRebuilt m (when_kept ticket m)
+IsReported (events.Resume plays) m = IsRebuilt m (when_resumed plays m)

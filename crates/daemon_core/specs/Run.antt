@@ -24,9 +24,10 @@ use Rattle.idle_masks.specs.Subsystems.{none, union}
 use Rattle.idle_masks.specs.declared.subsystem.Subsystems.{Subsystems}
 use Rattle.machine_core.specs.Changed.{changed}
 use Rattle.machine_core.specs.Command.{meaning}
+use Rattle.machine_core.specs.Keeping.{kept}
 use Rattle.machine_core.specs.Looks.{looked, looks_of, max_looks, weighed}
 use Rattle.machine_core.specs.Meaning.{Meaning, Meant}
-use Rattle.machine_core.specs.Size.{within}
+use Rattle.machine_core.specs.Size.{within_room}
 use Rattle.machine_core.specs.State.{MachineState}
 use Rattle.state_codec.specs.Sealed.{checksum_len}
 use Rattle.state_codec.specs.Spelling.{ops_bytes}
@@ -126,9 +127,10 @@ unfoldable pub tags_behind : Command → TagMask → TagMask
 tags_behind (commands.Database command) tags = database_tags command tags
 tags_behind command tags = tags
 
--- what a command means, within what is left of both
+-- what a command means, within what is left of both, with what is kept of the player behind it
 abbrev pub within_both : Spent → Command → MachineState → Meant
-within_both spent command m = within m.saved.profile spent.size (weighed spent.looks (looks_of command m) (meaning spent.tags command m))
+within_both spent command m =
+    kept m (within_room m.saved.profile spent.size (weighed spent.looks (looks_of command m) (meaning spent.tags command m)))
 
 -- what a command of this client does that doesn't end its request
 unfoldable pub done_by : ℕ → Spent → Command → MachineState → Result Done CommandRefusal

@@ -13,6 +13,7 @@ use Rattle.idle_masks.specs.declared.ready.Report.{Report}
 use Rattle.idle_masks.specs.declared.subsystem.Subsystem.{Subsystem}
 use Rattle.idle_masks.specs.declared.subsystem.Subsystems.{Subsystems}
 use Rattle.idle_masks.specs.declared.watch.Watched.{Watched}
+use Rattle.machine_core.specs.Keeping.{kept_event, when_kept, when_resumed}
 use Rattle.machine_core.specs.Reports.{when_fed, when_ended, when_broken}
 use Rattle.machine_core.specs.Scanning.{when_found, when_scanned}
 use Rattle.state_codec.specs.declared.op.Op.{Op}
@@ -74,11 +75,13 @@ acted s (events.Connect c) refused = connects_client c s (watched s.clients c)
 acted s (events.Request c request) refused = requested_by c refused s request (waiting_of (watched s.clients c))
 acted s (events.Gone c) refused = nothing (without c s)
 acted s (events.Fed ticket frames) refused = happened s (when_fed ticket frames s.machine)
-acted s (events.Ended ticket) refused = happened s (when_ended ticket s.machine)
-acted s (events.Broken ticket cause) refused = happened s (when_broken ticket cause s.machine)
-acted s (events.Batch job changes) refused = happened s (when_found job changes s.machine)
+acted s (events.Ended ticket) refused = happened s (kept_event s.machine (when_ended ticket s.machine))
+acted s (events.Broken ticket cause) refused = happened s (kept_event s.machine (when_broken ticket cause s.machine))
+acted s (events.Batch job changes) refused = happened s (kept_event s.machine (when_found job changes s.machine))
 acted s (events.ScanDone job) refused = happened s (when_scanned job s.machine)
 acted s (events.Clock time) refused = nothing (clocked time s)
+acted s (events.Keep ticket) refused = happened s (when_kept ticket s.machine)
+acted s (events.Resume plays) refused = happened s (when_resumed plays s.machine)
 
 abbrev pub line_if : Bool → Subsystem → List ℕ
 line_if true x = changed_line x

@@ -24,7 +24,8 @@ is_late ticket player = is_stop player.state || not (player.ticket == ticket)
 abbrev pub is_over : ℕ → Job → Bool
 is_over number job = not job.runs || not (job.number == number)
 
--- A second connect, an event of a client that is not connected, a report of the output that is late, and one of a job that is over.
+-- A second connect, an event of a client that is not connected, a report of the output that is late, one of a job that is over, and
+-- a player that is to go on where something was started already.
 abbrev pub is_stray : State → Event → Bool
 is_stray s (events.Connect c) = is_some (watched s.clients c)
 is_stray s (events.Request c request) = is_none (watched s.clients c)
@@ -35,6 +36,8 @@ is_stray s (events.Broken ticket cause) = is_late ticket s.machine.player
 is_stray s (events.Batch job changes) = is_over job s.machine.job
 is_stray s (events.ScanDone job) = is_over job s.machine.job
 is_stray s (events.Clock time) = false
+is_stray s (events.Keep ticket) = is_late ticket s.machine.player
+is_stray s (events.Resume plays) = not (s.machine.player.ticket == 0)
 
 -- the state stays, and nothing is given out
 abbrev pub stays : State → Stepped

@@ -6,6 +6,7 @@ use Rattle.command_text.specs.declared.request.Request.{Request}
 use Rattle.command_text.specs.declared.request.Request.TheVariants.{Single, List as CommandList, OkList, Noidle}
 use Rattle.idle_masks.specs.Watched.{watched}
 use Rattle.idle_masks.specs.declared.subsystem.Subsystems.{Subsystems}
+use Rattle.machine_core.specs.Keeping.{kept_event, when_kept}
 use Rattle.machine_core.specs.Reports.{when_broken, when_ended}
 use Rattle.machine_core.specs.Scanning.{is_running, kept_changes, telling}
 use Rattle.machine_core.specs.State.{MachineState}
@@ -44,16 +45,20 @@ AskedLeaves c refused spent m request (Some None) = RequestLeaves c refused spen
 AskedLeaves c refused spent m request (Some (Some mask)) = Unit {0}
 
 -- Nothing that is saved changes at any turn: each command of a request leaves the saved half as it finds it, so does what follows the end
--- of a song or its failure, and no change of a batch of the job that runs changes a row. Of the saved half no other event speaks.
+-- of a song or its failure, where the player is is kept already, and no change of a batch of the job that runs changes a row. Of the
+-- saved half no other event speaks.
 abbrev pub LeavesSaved : State → Event → Option ℕ → Type 0
 LeavesSaved s (events.Connect c) refused = Unit {0}
 LeavesSaved s (events.Request c request) refused =
     AskedLeaves c refused (begun c s) s.machine request (waiting_of (watched s.clients c))
 LeavesSaved s (events.Gone c) refused = Unit {0}
 LeavesSaved s (events.Fed ticket frames) refused = Unit {0}
-LeavesSaved s (events.Ended ticket) refused = (when_ended ticket s.machine).after.saved ≡ s.machine.saved
-LeavesSaved s (events.Broken ticket cause) refused = (when_broken ticket cause s.machine).after.saved ≡ s.machine.saved
+LeavesSaved s (events.Ended ticket) refused = (kept_event s.machine (when_ended ticket s.machine)).after.saved ≡ s.machine.saved
+LeavesSaved s (events.Broken ticket cause) refused = (kept_event s.machine (when_broken ticket cause s.machine)).after.saved
+    ≡ s.machine.saved
 LeavesSaved s (events.Batch job changes) refused =
     is_running job s.machine ≡ true → telling s.machine.saved.songs (kept_changes s.machine.saved.profile changes) ≡ []
 LeavesSaved s (events.ScanDone job) refused = Unit {0}
 LeavesSaved s (events.Clock time) refused = Unit {0}
+LeavesSaved s (events.Keep ticket) refused = (when_kept ticket s.machine).after.saved ≡ s.machine.saved
+LeavesSaved s (events.Resume plays) refused = Unit {0}

@@ -26,4 +26,8 @@ pub enum Event {
     ScanDone { job: u32 },
     /// A clock tells the time: it comes before what needs it.
     Clock(ClockTime),
+    /// The song of this ticket has been played for a while: where the player is now is kept.
+    Keep { ticket: u64 },
+    /// The player goes on from where it was kept: a song that played plays on, or is paused.
+    Resume { plays: bool },
 }

@@ -1,5 +1,5 @@
 //! Laws of the definitions, for the layers above: a call brings its clauses into their proofs.
-ghost use Rattle.std.specs.Prelude.{◌≡◌, ◌⊎◌, ◌≤◌, ◌∷◌, ℕ, List, [], Option, None, true, false, IfSome};
+ghost use Rattle.std.specs.Prelude.{◌≡◌, ◌≢◌, ◌⊎◌, ◌≤◌, ◌∷◌, ℕ, Bool, List, [], Option, None, true, false, IfSome};
 ghost use Rattle.std.specs.List.{AllByRecursion};
 ghost use Rattle.daemon_core.specs.Kill.{ends_daemon};
 ghost use Rattle.daemon_core.specs.Leaving.{missing, still_there, there, ClosesNoOther};
@@ -13,9 +13,13 @@ ghost use Rattle.daemon_core.specs.Stray.{is_stray, stays};
 ghost use Rattle.daemon_core.specs.Unchanged.{LeavesSaved};
 ghost use Rattle.daemon_core.specs.declared.event.Event.{Event};
 ghost use Rattle.daemon_core.specs.declared.event.Event.TheVariants as events;
+ghost use Rattle.machine_core.specs.Keeping.{when_resumed};
 ghost use Rattle.machine_core.specs.Looks.{max_looks};
+ghost use Rattle.machine_core.specs.Restart.{GoesOnAs, HasSoundPlace};
 ghost use Rattle.machine_core.specs.Sound.{IsIn, AreOwn, IsWithinSong};
+ghost use Rattle.machine_core.specs.State.{started};
 ghost use Rattle.machine_core.specs.declared.clock.ClockTime.{ClockTime};
+ghost use Rattle.profile.specs.declared.profile.Profile.TheVariants.{Wide};
 ghost use Rattle.state_codec.specs.SavedState.{SavedState, IsSavedState};
 
 /// Along any history the outputs of each event are the reply that the history gives: its own client's answer, and for
@@ -118,6 +122,19 @@ pub fn frame_is_within_the_song()
     ensures { (kept : SavedState) (history : List Entry) → IsSavedState kept → IsWithinSong (replay kept history).machine }
 {
     machine_core::laws::frame_stays_within_the_song();
+}
+
+/// After any history of a state of the wide profile whose place was sound, as a fresh one's is, the place is sound; and where a song was
+/// started in that history, or gone on with, the next life goes on with the player's song and round.
+pub fn a_restart_goes_on()
+    ensures sound { (kept : SavedState) (history : List Entry) → IsSavedState kept → kept.profile ≡ Wide → HasSoundPlace kept
+        → HasSoundPlace (replay kept history).machine.saved }
+    ensures goes_on { (kept : SavedState) (history : List Entry) (plays : Bool) → IsSavedState kept → kept.profile ≡ Wide
+        → HasSoundPlace kept → let m = (replay kept history).machine in m.player.ticket ≢ 0
+        → GoesOnAs plays m.player (when_resumed plays (started m.saved)).after.player }
+{
+    machine_core::laws::kept_place_stays_in_step();
+    machine_core::laws::a_restart_goes_on();
 }
 
 /// An event makes no op exactly where nothing that is saved changes at any turn of it: no command of its request that is run changes the

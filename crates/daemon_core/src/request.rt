@@ -7,7 +7,7 @@ ghost use Rattle.daemon_core.specs.Run.{tags_behind, tags_of_line};
 ghost use Rattle.daemon_core.specs.Step.{is_noidle};
 ghost use Rattle.machine_core.specs.Looks.{looked, looks_of};
 ghost use Rattle.machine_core.specs.Memory.{takes_memory};
-ghost use Rattle.machine_core.specs.Work.{AddsText, HasRoom, ack_room, command_room};
+ghost use Rattle.machine_core.specs.Work.{CanKeepBy, AddsText, HasRoom, ack_room, command_room};
 
 use crate::handled::Handled;
 use crate::outcome::{Bytes, Ending, Outcome, Output};
@@ -398,14 +398,14 @@ fn run_line(
     ensures tags { SeesTags (tags_of_line place line.now machine.old tags.old) tags.new result }
     ensures looks { CountsLooks (looked looks.old (looks_of_line place line.now machine.old)) looks.new result }
 {
-    if work.make_room().is_err() {
+    let profile = machine.saved().profile();
+    if work.make_room(profile).is_err() {
         return Err(Stop::NoMemory);
     }
     let words = match read_words(alloc, line) {
         Ok(words) => words,
         Err(error) => return Err(stop_of_reading(error)),
     };
-    let profile = machine.saved().profile();
     match Command::read(alloc, profile, place, words.as_slice()) {
         Ok(command) => {
             let before = *tags;
@@ -430,7 +430,8 @@ fn run_command(
     work: &mut Work,
     looks: &mut Looks,
 ) -> Result<Subsystems, Stop>
-    requires { HasRoom command_room work.old }
+    requires room { HasRoom command_room work.old }
+    requires keeps { CanKeepBy machine.old.saved.profile work.old }
     ensures ran { RunsLine (separator separated)
         (performed client (spent_of work.old.size looks.old tags talks.old.messages) command.entry machine.old)
         machine.old machine.new talks.old talks.new work.old work.new result }
@@ -467,7 +468,8 @@ fn perform(
     work: &mut Work,
     looks: &mut Looks,
 ) -> Result<Subsystems, Failure>
-    requires { HasRoom command_room work.old }
+    requires room { HasRoom command_room work.old }
+    requires keeps { CanKeepBy machine.old.saved.profile work.old }
     ensures ran { RunsCommand
         (done_by client (spent_of work.old.size looks.old tags talks.old.messages) command.entry machine.old)
         machine.old machine.new talks.old talks.new work.old work.new result }

@@ -61,6 +61,14 @@ impl CoreParts {
                 self.machine.set_clock(time);
                 Ok(Handled::nothing(alloc))
             }
+            Event::Keep { ticket } => {
+                let happened = self.machine.keep(alloc, ticket)?;
+                Ok(Handled::happened(alloc, happened))
+            }
+            Event::Resume { plays } => {
+                let happened = self.machine.resume(alloc, plays)?;
+                Ok(Handled::happened(alloc, happened))
+            }
         }
     }
 }

@@ -3,6 +3,7 @@ use crate::fault::Fault;
 use crate::given::read_bytes;
 use crate::printer::Printer;
 use crate::words::{first_word, number};
+use no_memory::NoMemory;
 use profile::Profile;
 use state_codec::Saved;
 use std::alloc::Global;
@@ -27,13 +28,13 @@ pub struct Codec {
 
 impl Codec {
     /// A new state under a key of zeros, and no bytes; they are read in the layout of the named subset.
-    pub fn new(alloc: Global) -> Self {
-        Codec {
+    pub fn new(alloc: Global) -> Result<Self, NoMemory> {
+        Ok(Codec {
             alloc,
             layout: LAYOUT,
-            state: Saved::fresh(alloc, Profile::Named, [0; 32]),
+            state: Saved::fresh(alloc, Profile::Named, [0; 32])?,
             given: Vec::new(alloc),
-        }
+        })
     }
 
     /// Does what a line asks for.
@@ -72,7 +73,7 @@ impl Codec {
     // Does what a line asks for of the state.
     fn tell(&mut self, printer: &mut Printer, word: &str) -> Result<(), Fault> {
         match word {
-            "widen" => self.state.widen(),
+            "widen" => self.state.widen(self.alloc)?,
             "spelled" => return self.tell_spelled(printer),
             "respelled" => return self.tell_again(printer),
             "shown" => shown::tell_state(printer, &self.state),
@@ -91,7 +92,7 @@ impl Codec {
     }
 
     fn renew(&mut self, text: &str) -> Result<(), Fault> {
-        self.state = Saved::fresh(self.alloc, Profile::Named, [number(text)?; 32]);
+        self.state = Saved::fresh(self.alloc, Profile::Named, [number(text)?; 32])?;
         Ok(())
     }
 

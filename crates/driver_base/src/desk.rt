@@ -49,8 +49,8 @@ fn tell_refusals(printer: &mut Printer) {
 }
 
 impl Desk {
-    pub fn new(alloc: Global) -> Self {
-        Desk {
+    pub fn new(alloc: Global) -> Result<Self, NoMemory> {
+        Ok(Desk {
             printer: Printer::new(alloc),
             profile: Profile::Named,
             a: File::empty(alloc),
@@ -58,8 +58,8 @@ impl Desk {
             aside: None,
             later: Vec::new(alloc),
             collected: Vec::new(alloc),
-            codec: Codec::new(alloc),
-        }
+            codec: Codec::new(alloc)?,
+        })
     }
 
     /// Takes the disks for a life.

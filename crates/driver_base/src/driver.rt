@@ -4,6 +4,7 @@ use crate::fault::Fault;
 use crate::journal::{TestJournal, make_journal, open_journal, take_journal_line};
 use crate::stage::{Stage, make_stage, open_stage, take_stage_line};
 use crate::words::first_word;
+use no_memory::NoMemory;
 use std::alloc::Global;
 use std::mem;
 
@@ -52,11 +53,11 @@ fn close(desk: &mut Desk, life: Life) -> Result<(), Fault> {
 
 impl Driver {
     /// Two empty files in memory, and nothing over them.
-    pub fn new(alloc: Global) -> Self {
-        Driver {
-            desk: Desk::new(alloc),
+    pub fn new(alloc: Global) -> Result<Self, NoMemory> {
+        Ok(Driver {
+            desk: Desk::new(alloc)?,
             life: Life::None,
-        }
+        })
     }
 
     /// Whether nothing stands over the files.

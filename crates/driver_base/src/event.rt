@@ -66,6 +66,8 @@ pub fn event_of(alloc: Global, collected: &mut Vec<RowChange>, text: &str) -> Re
         }),
         "scanned" => Ok(Event::ScanDone { job: job_of(first) }),
         "clock" => Ok(Event::Clock(clock_of(first, rest)?)),
+        "keep" => Ok(Event::Keep { ticket: first }),
+        "resume" => Ok(Event::Resume { plays: first == 1 }),
         _ => Err(Fault::NoDirective),
     }
 }

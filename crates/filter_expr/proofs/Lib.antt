@@ -10,8 +10,8 @@ mod LikeTexts
 mod Occurrence
 mod Pairs
 mod Pieces
-mod Rows
-mod Sorting
+pub mod Rows
+pub mod Sorting
 mod Spelling
 mod Texts
-mod Windows
+pub mod Windows

@@ -1,12 +1,14 @@
 -- Files that give a state are opened with it, and a history keeps the profile of its state.
-use Rattle.std.proofs.Common.{◌≡◌, inl, inr, ℕ, Bool, true, false, cond, List, [], ◌∷◌, Option, Some, None, refl, sym, ap, subst, ◌∙◌}
+use Rattle.std.proofs.Common.{◌≡◌, ◌==◌, inl, inr, ℕ, Bool, true, false, cond, List, [], ◌∷◌, Option, Some, None, refl, ap, ◌∙◌}
 use Rattle.std.specs.Option.{option_and_then}
 use Rattle.disk_model.specs.History.{Change}
-use Rattle.disk_model.specs.Images.{window, IsImage}
-use Rattle.machine_core.specs.Happening.{nothing_happens}
+use Rattle.machine_core.specs.Happening.{Happening, nothing_happens}
+use Rattle.machine_core.specs.Keeping.{keep_ops, keeps_place, kept_event, resumes, when_kept, when_resumed}
 use Rattle.machine_core.specs.Reports.{when_broken, when_ended}
 use Rattle.machine_core.specs.Scanning.{changes_rows, ends_scan, finds, is_running, kept_changes, telling, when_found, when_scanned}
 use Rattle.machine_core.specs.State.{MachineState}
+use Rattle.player_core.specs.Place.{PlaceState}
+use Rattle.player_core.specs.Reports.{counts}
 use Rattle.play_journal.specs.Content.{Content, IsKnownLayout}
 use Rattle.play_journal.specs.Pair.{found, IsPair}
 use Rattle.play_journal.proofs.PairLaws.{pair-found}
@@ -20,11 +22,11 @@ use Rattle.state_codec.specs.SavedState.{SavedState}
 use Rattle.state_codec.proofs.AppliedLaws.{same_profile}
 use Rattle.daemon_core.specs.declared.event.Event.{Event}
 use Rattle.daemon_core.specs.declared.event.Event.TheVariants as events
-use Rattle.daemon_core.specs.Replay.{Entry, stepped}
+use Rattle.daemon_core.specs.Replay.{Entry}
 use Rattle.daemon_core.specs.State.{State}
 use Rattle.daemon_core.specs.Step.{Stepped, step}
 use Rattle.daemon_core.proofs.RebuildLaws.{CommandsRebuild, step_rebuilds}
-use Rattle.live_stage.specs.Found.{given_state, found_state, is_read, brought, state_of, taken_state, AllFindNow, AllOpenNow}
+use Rattle.live_stage.specs.Found.{given_state, found_state, is_read, state_of, taken_state, AllFindNow, AllOpenNow}
 use Rattle.live_stage.specs.Transcript.{replayed}
 use Rattle.live_stage.proofs.ProfileLaws.{brought_own, profile_stays, state_profile, taken_of}
 
@@ -82,6 +84,34 @@ scanned_profile job m =
       | false ↦ refl
     ]
 
+kept_found_profile : (job : ℕ) (changes : List RowChange) (m : MachineState)
+    → (let h = kept_event m (when_found job changes m) in h.after.saved.profile) ≡ m.saved.profile
+kept_found_profile job changes m =
+    let h : Happening = when_found job changes m in
+    after_all_profile (keep_ops m h.after) h.after.saved ∙ found_profile job changes m
+
+kept_profile : (ticket : ℕ) (m : MachineState) → (let h = when_kept ticket m in h.after.saved.profile) ≡ m.saved.profile
+kept_profile ticket m =
+    elim (counts m.player.state m.player.ticket ticket) as (λ b.
+    (let h = cond b (keeps_place m) (nothing_happens m) in h.after.saved.profile)
+    ≡ m.saved.profile) [
+      | true ↦ after_all_profile (let h = keeps_place m in h.ops) m.saved
+      | false ↦ refl
+    ]
+
+resumes_profile : (plays : Bool) (m : MachineState) (place : Option PlaceState)
+    → (let h = resumes plays m place in h.after.saved.profile) ≡ m.saved.profile
+resumes_profile plays m None = refl
+resumes_profile plays m (Some place) = refl
+
+resumed_profile : (plays : Bool) (m : MachineState) → (let h = when_resumed plays m in h.after.saved.profile) ≡ m.saved.profile
+resumed_profile plays m =
+    elim (m.player.ticket == 0) as (λ b. (let h = cond b (resumes plays m m.saved.place) (nothing_happens m) in h.after.saved.profile)
+    ≡ m.saved.profile) [
+      | true ↦ resumes_profile plays m m.saved.place
+      | false ↦ refl
+    ]
+
 -- what is rebuilt by its ops keeps the profile
 by_ops : (s : State) (r : Stepped) → all_applied r.ops s.machine.saved ≡ Some r.after.machine.saved
     → r.after.machine.saved.profile ≡ s.machine.saved.profile
@@ -96,11 +126,17 @@ step_profile law s (events.Request c request) refused = by_ops s (step s (events
     (step_rebuilds law s (events.Request c request) refused tt).state
 step_profile law s (events.Gone c) refused = by_ops s (step s (events.Gone c) refused) (step_rebuilds law s (events.Gone c) refused tt).state
 step_profile law s (events.Fed ticket frames) refused = refl
-step_profile law s (events.Ended ticket) refused = after_all_profile (let h = when_ended ticket s.machine in h.ops) s.machine.saved
-step_profile law s (events.Broken ticket cause) refused = after_all_profile (let h = when_broken ticket cause s.machine in h.ops) s.machine.saved
-step_profile law s (events.Batch job changes) refused = found_profile job changes s.machine
+step_profile law s (events.Ended ticket) refused =
+    let h : Happening = when_ended ticket s.machine in
+    after_all_profile (keep_ops s.machine h.after) h.after.saved ∙ after_all_profile h.ops s.machine.saved
+step_profile law s (events.Broken ticket cause) refused =
+    let h : Happening = when_broken ticket cause s.machine in
+    after_all_profile (keep_ops s.machine h.after) h.after.saved ∙ after_all_profile h.ops s.machine.saved
+step_profile law s (events.Batch job changes) refused = kept_found_profile job changes s.machine
 step_profile law s (events.ScanDone job) refused = scanned_profile job s.machine
 step_profile law s (events.Clock time) refused = refl
+step_profile law s (events.Keep ticket) refused = kept_profile ticket s.machine
+step_profile law s (events.Resume plays) refused = resumed_profile plays s.machine
 
 -- nor does a history
 pub history_profile : (law : CommandsRebuild) (s : State) (history : List Entry)

@@ -1,5 +1,5 @@
 -- The profile of a state, of what its files say, and of what its events leave.
-use Rattle.std.proofs.Common.{◌≡◌, ◌⊎◌, inl, inr, ℕ, zero, suc, ◌≤◌, Bool, true, false, List, [], ◌∷◌, length, Option, Some, None}
+use Rattle.std.proofs.Common.{◌≡◌, inl, inr, ℕ, zero, suc, ◌≤◌, true, false, List, [], ◌∷◌, length, Option, Some, None}
 use Rattle.std.proofs.Common.{Result, Ok, Err, refl, sym, ap, subst, ◌∙◌, arith}
 use Rattle.std.specs.Prelude.{IfSome, ◌==◌, ◌+◌, option_map}
 use Rattle.std.specs.List.{AllByRecursion}
@@ -11,12 +11,13 @@ use Rattle.profile.specs.declared.profile.Profile.{Profile}
 use Rattle.profile.specs.declared.profile.Profile.TheVariants.{Named, Wide}
 use Rattle.state_codec.specs.declared.op.Op.{Op}
 use Rattle.state_codec.specs.Applied.{all_applied}
-use Rattle.state_codec.specs.Fields.{Field, byte_at, such}
+use Rattle.state_codec.specs.Fields.{Field}
 use Rattle.state_codec.specs.Layout.{layout_of, written_layout, profile_of}
 use Rattle.state_codec.specs.Ops.{IsKeptOp}
 use Rattle.state_codec.specs.Reading.{in_bytes, ops_reading, saved_reading}
+use Rattle.state_codec.specs.ReadingPlace.{place_at}
 use Rattle.state_codec.specs.ReadingSaved.{before_fields, entries_at, header_at, lists_at, parts_at, saved_at, songs_at, stickers_at}
-use Rattle.state_codec.specs.SavedState.{SavedState}
+use Rattle.state_codec.specs.SavedState.{SavedState, widened_from}
 use Rattle.state_codec.specs.Sealed.{unsealed}
 use Rattle.state_codec.specs.Steps.{◌>>=◌}
 use Rattle.state_codec.proofs.FieldLaws.{bind_ok, ok_is, passed_ok}
@@ -61,7 +62,7 @@ own_is_read Wide = refl
 
 pub brought_own : (p : Profile) (s : SavedState) → s.profile ≡ p → brought p s ≡ s
 brought_own Named s is = refl
-brought_own Wide s is = ap (λ (p : Profile). let t : SavedState = record s { profile = p } in t) (sym is)
+brought_own Wide s is = ap (λ (p : Profile). widened_from p s) is
 
 -- the first profile reads files of its own states alone
 named_layout : (layout : ℕ) → layout ≤ 2 → profile_of layout ≡ Named
@@ -73,7 +74,11 @@ named_layout (suc (suc (suc more))) low = absurd (omega (arith, low))
 pub brought_profile : (p : Profile) (layout : ℕ) (s : SavedState) → is_read p layout ≡ true → s.profile ≡ profile_of layout
     → (let t = brought p s in t.profile ≡ p)
 brought_profile Named layout s known is = is ∙ named_layout layout (leb-true layout 2 known)
-brought_profile Wide layout s known is = refl
+brought_profile Wide layout s known is = wide s.profile refl
+  where
+    wide : (p : Profile) → s.profile ≡ p → (let t = widened_from p s in t.profile ≡ Wide)
+    wide Named is = refl
+    wide Wide is = is
 
 -- ---- what was read
 
@@ -87,8 +92,8 @@ fields_profile : (p q : Profile) (field : Field SavedState) (x : SavedState × L
 fields_profile Named q field x has e = has x e
 fields_profile Wide q field x has e =
     let parts = bind_ok field _ x e in
-    let count = bind_ok (such (λ n. n == 0) byte_at parts.0.1) _ x parts.2 in
-    sym (ap (λ (y : SavedState × List ℕ). y.0.profile) (ok_is _ x count.2)) ∙ has parts.0 parts.1
+    let place = bind_ok (place_at parts.0.1) _ x parts.2 in
+    sym (ap (λ (y : SavedState × List ℕ). y.0.profile) (ok_is _ x place.2)) ∙ has parts.0 parts.1
 
 state_at_profile : (number : ℕ) (bytes : List ℕ) (x : SavedState × List ℕ) → saved_at (layout_of number) bytes ≡ Ok x
     → x.0.profile ≡ profile_of number

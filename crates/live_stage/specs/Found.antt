@@ -11,7 +11,7 @@ use Rattle.play_journal.specs.Pair.{found}
 use Rattle.profile.specs.declared.profile.Profile.{Profile}
 use Rattle.profile.specs.declared.profile.Profile.TheVariants.{Named, Wide}
 use Rattle.state_codec.specs.Layout.{written_layout}
-use Rattle.state_codec.specs.SavedState.{SavedState}
+use Rattle.state_codec.specs.SavedState.{SavedState, widened}
 use Rattle.state_codec.specs.Applied.{all_applied}
 use Rattle.state_codec.specs.Reading.{ops_reading, saved_reading}
 use Rattle.state_codec.specs.Steps.{◌>>=◌}
@@ -66,7 +66,7 @@ is_read profile layout = nat_le layout (written_layout profile)
 -- a state as it is taken: the second profile takes each as its own
 abbrev pub brought : Profile → SavedState → SavedState
 brought Named s = s
-brought Wide s = record s { profile = Wide }
+brought Wide s = widened s
 
 -- the state that a journal's content stands for, if it is of a layout that is read
 abbrev pub taken_state : Profile → Content → Option SavedState

@@ -120,7 +120,16 @@ impl<D: Disk> Live<D> {
                 b,
             });
         }
-        let saved = Saved::fresh(alloc, profile, key);
+        let saved = match Saved::fresh(alloc, profile, key) {
+            Ok(saved) => saved,
+            Err(_) => {
+                return Err(Refused {
+                    error: StartError::NoMemory,
+                    a,
+                    b,
+                });
+            }
+        };
         let (room, group) = match room_for(alloc) {
             Ok(rooms) => rooms,
             Err(error) => return Err(Refused { error, a, b }),

@@ -1,15 +1,17 @@
 -- What a command that reads does: it writes lines behind the answer and keeps them, or is refused, or finds no memory.
-use Rattle.std.proofs.Common.{◌≡◌, ℕ, List, [], ◌++◌, length, take, Result, Ok, Err, refl, sym, subst, ◌∙◌, arith}
+use Rattle.std.proofs.Common.{◌≡◌, ℕ, ◌+◌, ◌≤◌, List, [], ◌++◌, length, take, Result, Ok, Err, refl, sym, ap, subst, ◌∙◌, arith}
 use Rattle.std.proofs.lemmas.Bool.{false≢true}
 use Rattle.std.proofs.lemmas.List.{append-nil, take-append-le}
 use Rattle.std.proofs.Math.Seq.{take-length}
-use Rattle.std.specs.Vec.{vec_len}
+use Rattle.std.specs.Global.{Vec}
+use Rattle.std.specs.Vec.{vec_capacity, vec_len}
 use Rattle.command_text.specs.Answer.{Adds}
 use Rattle.command_text.specs.declared.refusal.CommandRefusal.{CommandRefusal}
 use Rattle.no_memory.specs.declared.NoMemory.{NoMemory as WantOfMemory}
+use Rattle.state_codec.specs.declared.op.Op.{Op}
 use Rattle.machine_core.specs.Meaning.{Meant, stands, says}
 use Rattle.machine_core.specs.State.{MachineState}
-use Rattle.machine_core.specs.Work.{AddsNothing, HasRoom, Keeps, Performs, command_room}
+use Rattle.machine_core.specs.Work.{AddsNothing, CanKeep, HasRoom, Keeps, Performs, command_room, keep_count}
 use Rattle.machine_core.specs.declared.work.Failure.{Failure}
 use Rattle.machine_core.specs.declared.work.Failure.TheVariants.{Refused, NoMemory}
 use Rattle.machine_core.specs.declared.work.Work.{Work}
@@ -32,15 +34,23 @@ says_nothing m w x room = record {
   text = sym (append-nil w.text.items);
   ops = record { ops = sym (append-nil w.ops.items); size = omega arith; fits = w.fits };
   room = room;
+  keeps = λ can. can;
 }
 
 -- what stood in front of the mark stands there still
 front_stays : (mark : ℕ) (old new added : List ℕ) → mark ≡ length old → new ≡ old ++ added → take mark new ≡ old
 front_stays mark old new added at e = rw (e, at) (take-append-le (length old) old added (omega arith) ∙ take-length old)
 
+-- the same ops leave the same room
+pub kept_room : (x w : Work) → x.ops ≡ w.ops → CanKeep w → CanKeep x
+kept_room x w same can = subst (λ (ops : Vec Op). vec_len ops + keep_count ≤ vec_capacity ops) (sym same) can
+
 -- lines that were written behind a mark, and kept or cut off
-module _ (lines : List ℕ) (m : MachineState) (mark : ℕ) (w x y : Work) (at : mark ≡ vec_len w.text) (ops : x.ops.items ≡ w.ops.items)
+module _ (lines : List ℕ) (m : MachineState) (mark : ℕ) (w x y : Work) (at : mark ≡ vec_len w.text) (ops : x.ops ≡ w.ops)
     (size : x.size ≡ w.size) where
+  same_items : x.ops.items ≡ w.ops.items
+  same_items = ap (λ (ops : Vec Op). ops.items) ops
+
   kept : (written : Result (Unit {0}) WantOfMemory) (u : Unit {0}) → Adds lines written w.text x.text → Keeps mark written x y (Ok u)
       → Performs (says lines m) m m w y (Ok u)
   kept (Err e) u a k = absurd (false≢true k.kept.0)
@@ -49,8 +59,9 @@ module _ (lines : List ℕ) (m : MachineState) (mark : ℕ) (w x y : Work) (at :
     means = refl;
     stands = refl;
     text = k.kept.1.0 ∙ a.all;
-    ops = record { ops = k.ops ∙ ops ∙ sym (append-nil w.ops.items); size = omega (arith, k.size, size); fits = y.fits };
+    ops = record { ops = k.ops ∙ same_items ∙ sym (append-nil w.ops.items); size = omega (arith, k.size, size); fits = y.fits };
     room = k.kept.1.1;
+    keeps = λ can. k.keeps (kept_room x w ops can);
   }
 
   front : (written : Result (Unit {0}) WantOfMemory) → Adds lines written w.text x.text → take mark x.text.items ≡ w.text.items
@@ -61,7 +72,13 @@ module _ (lines : List ℕ) (m : MachineState) (mark : ℕ) (w x y : Work) (at :
       → Performs {T = Unit {0}} (says lines m) m m w y (Err NoMemory)
   cut written a k = record {
     state = refl;
-    nothing = record { text = k.cut ∙ front written a; room = omega (arith, a.room, k.room); ops = k.ops ∙ ops; size = k.size ∙ size };
+    nothing = record {
+      text = k.cut ∙ front written a;
+      room = omega (arith, a.room, k.room);
+      ops = k.ops ∙ same_items;
+      size = k.size
+          ∙ size;
+    };
     refusal = tt;
   }
 
@@ -77,7 +94,7 @@ module _ (lines : List ℕ) (m : MachineState) (mark : ℕ) (w x y : Work) (at :
 
 -- the same of a command that means these lines, on a machine of which nothing was changed
 pub reads : (meant : Meant) (lines : List ℕ) (m n : MachineState) (mark : ℕ) (w x y : Work) (written : Result (Unit {0}) WantOfMemory)
-    (result : Result (Unit {0}) Failure) → meant ≡ says lines m → n ≡ m → mark ≡ vec_len w.text → x.ops.items ≡ w.ops.items
+    (result : Result (Unit {0}) Failure) → meant ≡ says lines m → n ≡ m → mark ≡ vec_len w.text → x.ops ≡ w.ops
     → x.size ≡ w.size
     → Adds lines written w.text x.text → Keeps mark written x y result → Performs meant m n w y result
 reads meant lines m n mark w x y written result means same at ops size a k =

@@ -4,6 +4,7 @@ pub mod Steps
 pub mod Numbers
 pub mod Selected
 pub mod Sorted
+pub mod EntryOrder
 pub mod Told
 pub mod Values
 pub mod Distinct

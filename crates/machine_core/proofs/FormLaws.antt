@@ -5,32 +5,34 @@ use Rattle.std.proofs.Common.{Option, Some, None}
 use Rattle.std.specs.List.{list_any}
 use Rattle.std.specs.Option.{ok_or}
 use Rattle.std.specs.Result.{result_ok}
+use Rattle.player_core.specs.Place.{PlaceState}
 use Rattle.player_core.specs.Player.{PlayerState}
 use Rattle.state_codec.specs.Applied.{refusal_of, changes_nothing, after, after_all, all_applied, applied_from}
 use Rattle.state_codec.specs.Applied.{unless_refused as unless_op_refused}
-use Rattle.state_codec.specs.Laws.{is_batch, uses_order}
+use Rattle.state_codec.specs.Laws.{but_place, is_batch, is_place, uses_order}
 use Rattle.state_codec.specs.SavedState.{SavedState, IsSavedState}
 use Rattle.state_codec.specs.Steps.{◌>>=◌}
 use Rattle.state_codec.specs.declared.op.Op.{Op}
-use Rattle.state_codec.specs.declared.op.Op.TheVariants.{SetOption, SetVolume, SetOrder, Queue, List as Lists, Sticker, Batch}
+use Rattle.state_codec.specs.declared.op.Op.TheVariants.{SetOption, SetVolume, SetOrder, Queue, List as Lists, Sticker, Batch, Place}
 use Rattle.state_codec.specs.declared.op.queue_op.QueueOp.{QueueOp}
 use Rattle.state_codec.specs.declared.op.queue_op.QueueOp.TheVariants as queue
-use Rattle.state_codec.proofs.OpsUnchanged.{op_only, op_refused, op_first}
+use Rattle.state_codec.proofs.OpsUnchanged.{op_apart, op_refused, op_first}
 use Rattle.stickers.specs.Sticker.{Sticker as Stuck}
 use Rattle.stored_lists.specs.Lists.{Stored}
 use Rattle.machine_core.specs.Before.{is_of_lists, is_of_stickers}
 use Rattle.machine_core.specs.Changed.{same_lists, same_stickers}
 use Rattle.machine_core.specs.Followed.{Following, followed}
-use Rattle.machine_core.specs.Meaning.{Meaning, Meant, stands, turns, begins, order_ops, edited}
+use Rattle.machine_core.specs.Meaning.{Meaning, Meant, stands, turns, begins, order_ops, edited, waits}
 use Rattle.machine_core.specs.State.{MachineState}
 use Rattle.machine_core.specs.declared.job.Job.{Job}
-use Rattle.machine_core.proofs.CommandForms.{Holds}
+use Rattle.machine_core.specs.declared.job.WaitingJob.{WaitingJob}
+use Rattle.machine_core.proofs.CommandForms.{Holds, is_commanded}
 use Rattle.machine_core.proofs.OrderSteps.{IsApart, followed_apart, order_stays}
 use Rattle.machine_core.proofs.SameParts.{lists_decide, stickers_decide, told_apart, told_same}
 
--- what the ops of a command tell of a machine that was saved well
+-- What the ops of a command tell of a machine that was saved well; nothing of the player's place alone, which is kept behind them.
 pub record TellsChanges (m : MachineState) (x : Meaning) : Type 0 where
-  pub none : x.after.saved ≡ m.saved → x.ops ≡ []
+  pub none : (place : Option PlaceState) → x.after.saved ≡ but_place place m.saved → x.ops ≡ []
   pub lists : list_any is_of_lists x.ops ≡ not (same_lists m.saved.lists x.after.saved.lists)
   pub stickers : list_any is_of_stickers x.ops ≡ not (same_stickers m.saved.stickers x.after.saved.stickers)
 
@@ -52,7 +54,7 @@ same_stickers_told s t same = sym (told_same s.stickers t.stickers _ (stickers_d
 -- nothing is told where playlists and stickers stay
 stays_told : (m : MachineState) (x : Meaning) → x.ops ≡ [] → x.after.saved ≡ m.saved → TellsChanges m x
 stays_told m x empty same = record {
-  none = λ e. empty;
+  none = λ place e. empty;
   lists = ap (list_any is_of_lists) empty ∙ same_lists_told m.saved x.after.saved (ap (λ (s : SavedState). s.lists) same);
   stickers = ap (list_any is_of_stickers) empty ∙ same_stickers_told m.saved x.after.saved (ap (λ (s : SavedState). s.stickers) same);
 }
@@ -68,6 +70,10 @@ turns_lawful player m = record { rebuilt = refl; tells = λ kept. stays_told m _
 -- a job begins under a number of its own
 pub begins_lawful : (job : Job) (text : List ℕ) (m : MachineState) → (job.number ≡ m.job.number → ⊥) → Lawful m (begins job text m)
 begins_lawful job text m own = record { rebuilt = refl; tells = λ kept. stays_told m _ refl refl; place = λ e. absurd (own e) }
+
+-- a job waits
+pub waits_lawful : (job : WaitingJob) (text : List ℕ) (m : MachineState) → Lawful m (waits job text m)
+waits_lawful job text m = record { rebuilt = refl; tells = λ kept. stays_told m _ refl refl; place = λ e. refl }
 
 -- what an edit does to the saved half
 abbrev done : Op → Option ℕ → SavedState → SavedState
@@ -91,13 +97,35 @@ done_rebuilt op None s free = applies op s free
 done_rebuilt op (Some g) s free = applies_behind op s g free
 
 -- it differs where the op changes something
-done_differs : (op : Op) (order : Option ℕ) (s : SavedState) → IsApart op order → (after op s ≡ s → ⊥) → done op order s ≡ s → ⊥
-done_differs op None s apart other same = other same
-done_differs op (Some g) s apart other same =
+done_differs : (op : Op) (order : Option ℕ) (place : Option PlaceState) (s : SavedState) → IsApart op order
+    → (after op s ≡ but_place place s → ⊥) → done op order s ≡ but_place place s → ⊥
+done_differs op None place s apart other same = other same
+done_differs op (Some g) place s apart other same =
     let free : uses_order op ≡ false = apart g refl in
-    let moved : with_order g (after op s) ≡ s = sym (op_first op g s free) ∙ same in
+    let moved : with_order g (after op s) ≡ but_place place s = sym (op_first op g s free) ∙ same in
     let order : (after op s).order ≡ g = order_stays op s free ∙ sym (ap (λ (t : SavedState). t.order) moved) in
     other (ap (λ (o : ℕ). with_order o (after op s)) order ∙ moved)
+
+-- what commands make of ops
+batch_apart : (op : Op) → is_commanded op ≡ true → is_batch op ≡ false
+batch_apart (SetOption setting) fits = refl
+batch_apart (SetVolume volume) fits = refl
+batch_apart (SetOrder g) fits = refl
+batch_apart (Queue op) fits = refl
+batch_apart (Lists op) fits = refl
+batch_apart (Sticker op) fits = refl
+batch_apart (Batch changes) fits = absurd (cc)
+batch_apart (Place op) fits = refl
+
+place_apart : (op : Op) → is_commanded op ≡ true → is_place op ≡ false
+place_apart (SetOption setting) fits = refl
+place_apart (SetVolume volume) fits = refl
+place_apart (SetOrder g) fits = refl
+place_apart (Queue op) fits = refl
+place_apart (Lists op) fits = refl
+place_apart (Sticker op) fits = refl
+place_apart (Batch changes) fits = refl
+place_apart (Place op) fits = absurd (cc)
 
 -- playlists and stickers are those that the op leaves
 done_lists : (op : Op) (order : Option ℕ) (s : SavedState) → IsApart op order → (done op order s).lists ≡ (after op s).lists
@@ -145,6 +173,7 @@ lists_told (Lists op) s other = let t : SavedState = after (Lists op) s in
     (λ e. other (ap (λ (l : Stored). record s { lists = l }) (sym e))))
 lists_told (Sticker op) s other = same_lists_told s (after (Sticker op) s) refl
 lists_told (Batch changes) s other = same_lists_told s (after (Batch changes) s) refl
+lists_told (Place op) s other = same_lists_told s (after (Place op) s) refl
 
 -- the op tells of stickers, unless it is a batch
 stickers_told : (op : Op) (s : SavedState) → is_batch op ≡ false → (after op s ≡ s → ⊥) →
@@ -158,22 +187,26 @@ stickers_told (Sticker op) s fits other = let t : SavedState = after (Sticker op
     sym (told_apart s.stickers t.stickers _ (stickers_decide s.stickers t.stickers)
     (λ e. other (ap (λ (l : List Stuck). record s { stickers = l }) (sym e))))
 stickers_told (Batch changes) s fits other = absurd (cc)
+stickers_told (Place op) s fits other = same_stickers_told s (after (Place op) s) refl
 
-edited_tells : (op : Op) (text : List ℕ) (next : Following) (m : MachineState) → is_batch op ≡ false → IsApart op next.order →
+edited_tells : (op : Op) (text : List ℕ) (next : Following) (m : MachineState) → is_commanded op ≡ true → IsApart op next.order →
     refusal_of op m.saved ≡ None → changes_nothing op m.saved ≡ false → IsSavedState m.saved → TellsChanges m (edited op text next m)
 edited_tells op text next m fits apart free changes kept =
     let s : SavedState = m.saved in
-    let other : after op s ≡ s → ⊥ = λ same. let none : changes_nothing op s ≡ true = op_only op s kept free fits same in cc in
+    let one : is_batch op ≡ false = batch_apart op fits in
+    let more : (place : Option PlaceState) → after op s ≡ but_place place s → ⊥ = λ place same.
+    let none : changes_nothing op s ≡ true = op_apart op place s kept free one (place_apart op fits) same in cc in
+    let other : after op s ≡ s → ⊥ = λ same. more s.place same in
     record {
-      none = λ same. absurd (done_differs op next.order s apart other same);
+      none = λ place same. absurd (done_differs op next.order place s apart (more place) same);
       lists = told_of is_of_lists op next.order (λ g. refl) ∙ lists_told op s other
           ∙ ap (λ l. not (same_lists s.lists l)) (sym (done_lists op next.order s apart));
-      stickers = told_of is_of_stickers op next.order (λ g. refl) ∙ stickers_told op s fits other
+      stickers = told_of is_of_stickers op next.order (λ g. refl) ∙ stickers_told op s one other
           ∙ ap (λ l. not (same_stickers s.stickers l)) (sym (done_stickers op next.order s apart));
     }
 
 -- an op that changes something, behind the random order that begins before it
-pub edited_lawful : (op : Op) (text : List ℕ) (m : MachineState) → is_batch op ≡ false → refusal_of op m.saved ≡ None →
+pub edited_lawful : (op : Op) (text : List ℕ) (m : MachineState) → is_commanded op ≡ true → refusal_of op m.saved ≡ None →
     changes_nothing op m.saved ≡ false → IsLawful m (edited op text (followed op m) m)
 edited_lawful op text m fits free changes = record {
   rebuilt = done_rebuilt op (followed op m).order m.saved free;

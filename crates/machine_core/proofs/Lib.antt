@@ -14,6 +14,7 @@ pub mod ReportsLaws
 pub mod Edits
 pub mod Growing
 pub mod Replacing
+pub mod ListMoves
 pub mod Shuffling
 pub mod EditCommands
 pub mod Answering
@@ -29,3 +30,9 @@ pub mod Scans
 pub mod CurrentPlace
 pub mod Sound
 pub mod Sizes
+pub mod KeepingLaws
+pub mod KeptLaws
+pub mod KeptReports
+pub mod KeptSteps
+pub mod KeptWork
+pub mod Rounds

@@ -1,3 +1,14 @@
 pub mod Rows
 pub mod Names
 pub mod Lines
+pub mod Moves
+pub mod Placed
+pub mod Blocks
+pub mod Stays
+pub mod Kept
+pub mod Whole
+pub mod Going
+pub mod Gone
+pub mod Made
+pub mod Same
+pub mod Left

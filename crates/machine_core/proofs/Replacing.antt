@@ -134,7 +134,7 @@ replaced_tells name m none changes kept =
     let free : replace_refusal name s ≡ None = refused_in_turn name s kept ∙ none in
     let other : t ≡ s → ⊥ = λ same. let nothing : replaces_nothing name s ≡ true = (nothing_replaced name s kept free).1 same in cc in
     record {
-      none = λ same. absurd (other same);
+      none = λ place same. absurd (other (ap (λ (l : Stored). record s { lists = l }) (ap (λ (u : SavedState). u.lists) same)));
       lists = sym (told_apart s.lists t.lists _ (lists_decide s.lists t.lists)
           (λ e. other (ap (λ (l : Stored). record s { lists = l }) (sym e))));
       stickers = same_stickers_told s t refl;

@@ -34,7 +34,7 @@ uris_itself : (a : Uris) → same_uris a a ≡ true
 uris_itself [] = refl
 uris_itself (uri ∷ uris) = joined (bytes_eq uri uri) (same_uris uris uris) ((bytes_decides uri uri).1 refl) (uris_itself uris)
 
-uris_decide : (a b : Uris) → Decides (same_uris a b) (a ≡ b)
+pub uris_decide : (a b : Uris) → Decides (same_uris a b) (a ≡ b)
 uris_decide a b = (uris_equal a b, λ e. ap (same_uris a) (sym e) ∙ uris_itself a)
 
 -- a name with its songs

@@ -1,3 +1,6 @@
 pub mod Rows
 pub mod Laws
+pub mod Kept
 pub mod Size
+pub mod Jobs
+pub mod Turns

@@ -40,7 +40,7 @@ both id span s = after_all (shuffle_ops id span s) s
 
 shuffled_tells : (id : ℕ) (span : Span) (m : MachineState) → TellsChanges m (does [] (shuffle_ops id span m.saved) m.player m)
 shuffled_tells id span m = record {
-  none = λ same. absurd (next_is_another m.saved.order (ap (λ (t : SavedState). t.order) same));
+  none = λ place same. absurd (next_is_another m.saved.order (ap (λ (t : SavedState). t.order) same));
   lists = same_lists_told m.saved (both id span m.saved) refl;
   stickers = same_stickers_told m.saved (both id span m.saved) refl;
 }

@@ -10,3 +10,4 @@ pub mod Frame
 pub mod Queues
 pub mod Within
 pub mod Kept
+pub mod Resumed

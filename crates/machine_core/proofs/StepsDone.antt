@@ -14,7 +14,7 @@ use Rattle.state_codec.specs.Spelling.{ops_bytes}
 use Rattle.std.specs.Vec.{vec_len, vec_capacity}
 use Rattle.machine_core.specs.Steps.{step_ops, steps, moves}
 use Rattle.machine_core.specs.State.{MachineState}
-use Rattle.machine_core.specs.Work.{AddsNothing, AddsOps, HasRoom, Went, command_room}
+use Rattle.machine_core.specs.Work.{AddsNothing, AddsOps, Admits, CanKeep, HasRoom, Went, command_room}
 use Rattle.machine_core.specs.declared.work.Work.{Work}
 use Rattle.machine_core.proofs.Playing.Steps.{FairIfMade}
 
@@ -23,9 +23,9 @@ pub made_went : (s : Result Step PlayerError) (m n : MachineState) (w a d : Work
     AnswersIfMemory {T = Changes} (refusal_of s) (Ok changes) →
     IfOk s (λ (made : Step). (changes ≡ made.changes) × (n ≡ (steps made m).after)) →
     AddsNothing w a → a.text ≡ w.text → AddsOps (step_ops changes) (length (ops_bytes m.saved.profile (step_ops changes))) a d →
-    d.text ≡ a.text → HasRoom command_room w → Went m.saved.profile (moves s m) n w d
-made_went (Err e) m n w a d changes answer is nothing same ops text room = absurd (cc)
-made_went (Ok made) m n w a d changes answer is nothing same ops text room = record {
+    d.text ≡ a.text → CanKeep d → HasRoom command_room w → Went m.saved.profile (moves s m) n w d
+made_went (Err e) m n w a d changes answer is nothing same ops text can room = absurd (cc)
+made_went (Ok made) m n w a d changes answer is nothing same ops text can room = record {
   meaning = steps made m;
   means = refl;
   stands = is.1;
@@ -36,7 +36,19 @@ made_went (Ok made) m n w a d changes answer is nothing same ops text room = rec
     fits = ops.fits;
   };
   room = subst (λ t. vec_len t + command_room ≤ vec_capacity t) (sym (text ∙ same)) room;
+  keeps = λ could. can;
 }
+
+-- the room that was taken for the ops of a step is room for what it changed
+pub room_made : (s : Result Step PlayerError) (told : Profile) (m n : MachineState) (a : Work) (changes : Changes) →
+    AnswersIfMemory {T = Changes} (refusal_of s) (Ok changes) →
+    IfOk s (λ (made : Step). (changes ≡ made.changes) × (n ≡ (steps made m).after)) →
+    IfOk s (λ (made : Step). Admits 4 (length (ops_bytes m.saved.profile (step_ops made.changes))) a) → told ≡ m.saved.profile →
+    Admits 4 (length (ops_bytes told (step_ops changes))) a
+room_made (Err e) told m n a changes answer is admits same = absurd (cc)
+room_made (Ok made) told m n a changes answer is admits same =
+    subst (λ (p : Profile). Admits 4 (length (ops_bytes p (step_ops changes))) a) (sym same)
+    (subst (λ (x : Changes). Admits 4 (length (ops_bytes m.saved.profile (step_ops x))) a) (sym is.0) admits)
 
 -- how many bytes are enough for the ops of a step, and how many they take
 pub bytes_enough : (s : Result Step PlayerError) (profile : Profile) (player : PlayerState) (changes : Changes) (bytes : ℕ) →

@@ -12,10 +12,12 @@ use Rattle.play_queue.specs.Entries.{deleted}
 use Rattle.play_queue.specs.Queue.{QueueState, is_same, is_unchanged}
 use Rattle.play_queue.specs.declared.entry.Entry.{Entry}
 use Rattle.play_queue.specs.declared.refusal.QueueError.TheVariants.{BadIndex}
+use Rattle.player_core.specs.Place.{PlaceState}
 use Rattle.player_core.specs.Player.{PlayerState, Step}
 use Rattle.player_core.specs.declared.options.Single.TheVariants.{Off, Oneshot}
 use Rattle.player_core.specs.declared.refusal.PlayerError.{PlayerError}
 use Rattle.state_codec.specs.Applied.{refusal_of, after, after_all}
+use Rattle.state_codec.specs.Laws.{but_place}
 use Rattle.state_codec.specs.OpsQueue.{queue_refusal}
 use Rattle.state_codec.specs.SavedState.{SavedState, IsSavedState}
 use Rattle.state_codec.specs.declared.op.Op.{Op}
@@ -23,7 +25,7 @@ use Rattle.state_codec.specs.declared.op.Op.TheVariants.{SetOption, SetOrder, Qu
 use Rattle.state_codec.specs.declared.op.queue_op.QueueOp.TheVariants.{Delete}
 use Rattle.state_codec.specs.declared.op.setting.Setting.TheVariants.{Single, Consume}
 use Rattle.state_codec.specs.declared.refusal.OpRefusal.TheVariants.{Queue}
-use Rattle.state_codec.proofs.OpsUnchanged.{op_only}
+use Rattle.state_codec.proofs.QueueUnchanged.{version_tells}
 use Rattle.machine_core.specs.Before.{is_of_lists, is_of_stickers}
 use Rattle.machine_core.specs.Meaning.{order_ops}
 use Rattle.machine_core.specs.State.{MachineState, settings_of}
@@ -149,9 +151,8 @@ removal_differs : (at : ℕ) (s : SavedState) → IsSavedState s → at < length
     (after (OfQueue (Delete at (at + 1))) s).queue ≡ s.queue → ⊥
 removal_differs at s kept within same =
     let entries : List Entry = s.queue.entries in
-    let whole : after (OfQueue (Delete at (at + 1))) s ≡ s = ap (λ (q : QueueState). record s { queue = q }) same in
     let unchanged : is_unchanged [] entries (deleted entries at (at + 1)) ≡ true =
-    op_only (OfQueue (Delete at (at + 1))) s kept (removal_free at s within) refl whole in
+    version_tells s.queue (deleted entries at (at + 1)) [] (ap (λ (q : QueueState). q.version) same) in
     let equal : length entries ≡ length (deleted entries at (at + 1)) = unchanged_length entries _ unchanged in
     absurd (omega (arith, equal, deleted_length at entries within))
 
@@ -180,21 +181,21 @@ consume_of_turn (Some g) s = refl
 none_if_same : (order removed : Option ℕ) (single consume : Bool) (s : SavedState) → IsSavedState s →
     ((g : ℕ) → order ≡ Some g → g ≡ s.order → ⊥) → ((at : ℕ) → removed ≡ Some at → at < length s.queue.entries) →
     (single ≡ true → s.options.single ≡ Oneshot) → (consume ≡ true → s.options.consume ≡ Oneshot) →
-    done order removed single consume s ≡ s →
+    (place : Option PlaceState) → done order removed single consume s ≡ but_place place s →
     order_ops order ++ (removal_ops removed ++ (single_ops single ++ consume_ops consume)) ≡ []
-none_if_same order (Some at) single consume s kept grows within once too same =
+none_if_same order (Some at) single consume s kept grows within once too place same =
     absurd (removal_differs at s kept (within at refl)
     (sym (queue_of_removal order at single consume s) ∙ ap (λ (t : SavedState). t.queue) same))
-none_if_same order None true consume s kept grows within once too same =
+none_if_same order None true consume s kept grows within once too place same =
     let turned : Off ≡ Oneshot =
     sym (single_of_turn order consume s) ∙ ap (λ (t : SavedState). t.options.single) same ∙ once refl in
     absurd (cc)
-none_if_same order None false true s kept grows within once too same =
+none_if_same order None false true s kept grows within once too place same =
     let turned : Off ≡ Oneshot = sym (consume_of_turn order s) ∙ ap (λ (t : SavedState). t.options.consume) same ∙ too refl in
     absurd (cc)
-none_if_same (Some g) None false false s kept grows within once too same =
+none_if_same (Some g) None false false s kept grows within once too place same =
     absurd (grows g refl (ap (λ (t : SavedState). t.order) same))
-none_if_same None None false false s kept grows within once too same = refl
+none_if_same None None false false s kept grows within once too place same = refl
 
 step_tells : (made : Step) (m : MachineState) → IsFair made m.saved.queue.entries (settings_of m.saved) → IsSavedState m.saved →
     TellsChanges m (steps made m)

@@ -1,13 +1,14 @@
 -- The commands of the database and its scans.
-use Rattle.std.specs.Prelude.{ℕ, suc, List, [], ◌++◌, ◌==◌, Bool, true, false, not, nat_lt, length, Option, Some, None, Result, Ok, Err}
+use Rattle.std.specs.Prelude.{ℕ, suc, ◌+◌, List, [], ◌∷◌, ◌++◌, ◌==◌, Bool, true, false, not, nat_lt, length, drop, Option, Some, None}
+use Rattle.std.specs.Prelude.{Result, Ok, Err}
 use Rattle.std.specs.Prelude.{flat_map, unwrap_or, if◌then◌else◌}
 use Rattle.command_text.specs.AnswerNames.{listed_commands, tag_type_line, directory_line, database_lines, times_lines}
-use Rattle.command_text.specs.AnswerSongs.{file_line, song_lines}
+use Rattle.command_text.specs.AnswerSongs.{file_line, named_file_lines, song_lines}
 use Rattle.command_text.specs.AnswerStatus.{job_line}
 use Rattle.command_text.specs.declared.command.database.DatabaseCommand.{DatabaseCommand}
 use Rattle.command_text.specs.declared.command.database.DatabaseCommand.TheVariants as commands
 use Rattle.command_text.specs.declared.refusal.CommandRefusal.{CommandRefusal}
-use Rattle.command_text.specs.declared.refusal.CommandRefusal.TheVariants.{AlreadyUpdating, NoSuchUri}
+use Rattle.command_text.specs.declared.refusal.CommandRefusal.TheVariants.{AlreadyUpdating, NoSuchUri, UpdatesFull}
 use Rattle.command_text.specs.Masks.{has}
 use Rattle.command_text.specs.declared.tag_mask.TagMask.{TagMask}
 use Rattle.profile.specs.Profile.{tags_of}
@@ -30,12 +31,13 @@ use Rattle.song_files.specs.declared.tag.Tag.{Tag}
 use Rattle.song_files.specs.declared.tag.Tag.TheVariants.{Artist, Album}
 use Rattle.machine_core.specs.Lent.{lent}
 use Rattle.machine_core.specs.Lists.{name_lines}
-use Rattle.machine_core.specs.Meaning.{Meant, must, says, answers, begins}
+use Rattle.machine_core.specs.Meaning.{Meant, must, says, answers, begins, waits}
 use Rattle.machine_core.specs.Ordered.{walk_in}
 use Rattle.machine_core.specs.State.{MachineState}
 use Rattle.machine_core.specs.declared.answer_database.Detail.{Detail}
 use Rattle.machine_core.specs.declared.answer_database.Detail.TheVariants.{Paths, Songs}
 use Rattle.machine_core.specs.declared.job.Job.{Job}
+use Rattle.machine_core.specs.declared.job.WaitingJob.{WaitingJob}
 
 -- the folders and the songs right in a place, by their bytes; or the songs and then the folders, as they are told
 abbrev pub content_lines : TagMask → Profile → List Row → Place → List ℕ
@@ -59,6 +61,21 @@ folder_info mask s place =
 abbrev pub info_at : TagMask → SavedState → List ℕ → Option Row → Result (List ℕ) CommandRefusal
 info_at mask s path (Some row) = Ok (song_lines mask row)
 info_at mask s path None = folder_info mask s (place_of (lent path))
+
+-- a path without the folder that it stands in
+abbrev pub name_in : Place → List ℕ → List ℕ
+name_in Root path = path
+name_in (At folder) path = drop (length folder.now + 1) path
+
+-- what stands right in a place by its names: the files of songs, and then the folders
+abbrev pub name_lines_in : List Row → Place → List ℕ
+name_lines_in songs place =
+    let rows = told_under songs place in
+    flat_map (λ row. named_file_lines (name_in place row.uri) row) (told_songs_in place rows)
+    ++ flat_map (λ folder. directory_line (name_in place folder)) (told_folders_in place rows)
+
+abbrev pub files_in : List Row → Place → Result (List ℕ) CommandRefusal
+files_in songs place = if is_folder songs place then Ok (name_lines_in songs place) else Err NoSuchUri
 
 -- a song by its path alone, or by all that is known of it and the client sees
 abbrev pub detail_lines : Detail → Row → List ℕ
@@ -105,11 +122,42 @@ abbrev pub begun : ℕ → Option (List ℕ) → Bool → ℕ → Job
 begun number place all now =
     record { number = number; place = place; opens_all = all; runs = true; has_changed_a_row = false; read = now }
 
--- a job begins, unless one runs
+-- so many jobs wait at most
+abbrev pub max_waiting_jobs : ℕ
+max_waiting_jobs = 32
+
+-- the number that was given last: that of the last job that waits, or else of the job
+abbrev pub last_given : ℕ → List WaitingJob → ℕ
+last_given number [] = number
+last_given number (job ∷ jobs) = last_given job.number jobs
+
+abbrev pub next_number : MachineState → ℕ
+next_number m = next_job (last_given m.job.number m.waiting)
+
+abbrev pub asked : ℕ → Option (List ℕ) → Bool → WaitingJob
+asked number place all = record { number = number; place = place; opens_all = all }
+
+-- whether a job may wait beside one that runs
+abbrev pub may_wait : Profile → List WaitingJob → Bool
+may_wait Named waiting = false
+may_wait Wide waiting = nat_lt (length waiting) max_waiting_jobs
+
+-- why it may not
+abbrev pub busy : Profile → CommandRefusal
+busy Named = AlreadyUpdating
+busy Wide = UpdatesFull
+
+-- a job waits for its turn
+abbrev pub waits_for_job : Option (List ℕ) → Bool → MachineState → Meant
+waits_for_job place all m = do
+  room ← must (may_wait m.saved.profile m.waiting) (busy m.saved.profile)
+  waits (asked (next_number m) place all) (job_line (next_number m)) m
+
+-- a job begins, or waits where one runs
 abbrev pub begins_job : Option (List ℕ) → Bool → MachineState → Meant
-begins_job place all m = do
-  free ← must (not m.job.runs) AlreadyUpdating
-  begins (begun (next_job m.job.number) place all m.clock.now) (job_line (next_job m.job.number)) m
+begins_job place all m =
+    if m.job.runs then waits_for_job place all m
+    else begins (begun (next_job m.job.number) place all m.clock.now) (job_line (next_job m.job.number)) m
 
 -- when the database was last updated: when its last job read it, or else when the daemon began
 abbrev pub updated_at : MachineState → ℕ
@@ -130,6 +178,8 @@ database_meaning mask (commands.ChangeMask change) m = says [] m
 database_meaning mask commands.Commands m = says (listed_commands m.saved.profile) m
 database_meaning mask (commands.ListAll path) m = listing Paths path m
 database_meaning mask (commands.ListAllInfo path) m = listing (Songs mask) path m
+database_meaning mask (commands.ListFiles path) m =
+    answers (files_in m.saved.songs (place_of (lent (unwrap_or path [])))) m
 database_meaning mask (commands.ListInfo path) m =
     let named = unwrap_or path [] in answers (info_at mask m.saved named (row_at m.saved.songs named)) m
 database_meaning mask commands.NotCommands m = says [] m

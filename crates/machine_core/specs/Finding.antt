@@ -15,7 +15,7 @@ use Rattle.filter_expr.specs.Meaning.{is_match}
 use Rattle.filter_expr.specs.Order.{is_before, sorted, window_of}
 use Rattle.filter_expr.specs.Tree.{Tree}
 use Rattle.filter_expr.specs.declared.case.Case.{Case}
-use Rattle.filter_expr.specs.declared.case.Case.TheVariants.{Exact, Folded}
+use Rattle.filter_expr.specs.declared.case.Case.TheVariants.{Exact}
 use Rattle.filter_expr.specs.declared.order.SortOrder.{SortOrder}
 use Rattle.command_text.specs.declared.tag_mask.TagMask.{TagMask}
 use Rattle.play_queue.specs.declared.entry.Entry.{Entry}
@@ -45,9 +45,9 @@ abbrev pub in_order : Option SortOrder → List Row → List Row
 in_order None rows = rows
 in_order (Some order) rows = sorted (is_before order) rows
 
-abbrev pub in_window : Option Window → List Row → List Row
-in_window None rows = rows
-in_window (Some window) rows = window_of window.start window.end rows
+abbrev pub in_window : {X : Type 0} → Option Window → List X → List X
+in_window None found = found
+in_window (Some window) found = window_of window.start window.end found
 
 -- What a search finds: the rows that match, in order, and of these the window.
 abbrev pub found : Profile → Search → List Row → List Row
@@ -98,27 +98,48 @@ group_counts profile tag rows =
 abbrev pub value_lines : Tag → List (List ℕ) → List ℕ
 value_lines tag values = flat_map (value_line tag) values
 
--- the entry at a position, where the row of its song matches
-abbrev pub entry_found : TagMask → Case → Tree → ℕ → Entry → Option Row → List ℕ
-entry_found mask case tree position entry None = []
-entry_found mask case tree position entry (Some row) = if is_match case tree row then entry_lines mask row position entry else []
+-- an entry of the queue at its position, with the row of its song
+pub record EntryRow : Type 0 where
+  pub position : ℕ
+  pub entry : Entry
+  pub row : Row
+
+-- the entry at a position, where its song has a row that matches
+abbrev pub entry_row : Case → Tree → ℕ → Entry → Option Row → List EntryRow
+entry_row case tree position entry None = []
+entry_row case tree position entry (Some row) =
+    if is_match case tree row then record { position = position; entry = entry; row = row } ∷ [] else []
 
 -- of the entries that stand from a position on those that match, as the queue has them
-abbrev pub entries_found : TagMask → Case → Tree → List Row → ℕ → List Entry → List ℕ
-entries_found mask case tree songs position [] = []
-entries_found mask case tree songs position (entry ∷ entries) =
-    entry_found mask case tree position entry (row_at songs entry.uri) ++ entries_found mask case tree songs (suc position) entries
+abbrev pub entry_rows : Case → Tree → List Row → ℕ → List Entry → List EntryRow
+entry_rows case tree songs position [] = []
+entry_rows case tree songs position (entry ∷ entries) =
+    entry_row case tree position entry (row_at songs entry.uri) ++ entry_rows case tree songs (suc position) entries
+
+-- in the order of their songs that is asked for; if none is, they stay as the queue has them
+abbrev pub entries_in_order : Option SortOrder → List EntryRow → List EntryRow
+entries_in_order None entries = entries
+entries_in_order (Some order) entries = sorted (λ a b. is_before order a.row b.row) entries
+
+-- What a search finds in the queue: the entries that match, in order, and of these the window.
+abbrev pub entries_found : Search → List Row → List Entry → List EntryRow
+entries_found search songs entries =
+    in_window search.window (entries_in_order search.sort (entry_rows search.case search.filter songs 0 entries))
+
+abbrev pub entry_row_lines : TagMask → EntryRow → List ℕ
+entry_row_lines mask found = entry_lines mask found.row found.position found.entry
 
 unfoldable pub finding_meaning : TagMask → FindingCommand → MachineState → Meant
 finding_meaning mask (commands.Add search to) m = adds to (numbers_in m.saved.songs (found m.saved.profile search m.saved.songs)) [] m
-finding_meaning mask (commands.AddToPlaylist name tree) m = do
+finding_meaning mask (commands.AddToPlaylist name search) m = do
   good ← list_name name
-  edits (OfLists (list_ops.Add good (numbers_in m.saved.songs (matching Folded tree (rows_told m.saved.profile m.saved.songs))))) [] m
+  edits (OfLists (list_ops.Add good (numbers_in m.saved.songs (found m.saved.profile search m.saved.songs)))) [] m
 finding_meaning mask (commands.Count tree) m =
     let found = matching Exact tree m.saved.songs in says (count_lines (length found) (total_of found)) m
 finding_meaning mask (commands.CountGroups tag tree) m = says (group_counts m.saved.profile tag (chosen tree m.saved.songs)) m
 finding_meaning mask (commands.Find search) m = says (flat_map (song_lines mask) (found m.saved.profile search m.saved.songs)) m
-finding_meaning mask (commands.InQueue case tree) m = says (entries_found mask case tree m.saved.songs 0 m.saved.queue.entries) m
+finding_meaning mask (commands.InQueue search) m =
+    says (flat_map (entry_row_lines mask) (entries_found search m.saved.songs m.saved.queue.entries)) m
 finding_meaning mask (commands.ListFiles tree) m = says (flat_map (λ row. file_line row.uri) (chosen tree m.saved.songs)) m
 finding_meaning mask (commands.ListGroups tags tree) m = says (group_lines m.saved.profile tags (chosen tree m.saved.songs)) m
 finding_meaning mask (commands.ListTag tag tree) m =

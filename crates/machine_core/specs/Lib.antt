@@ -12,8 +12,11 @@ pub mod Steps
 pub mod Settings
 pub mod Database
 pub mod Queue
+pub mod EntryRows
 pub mod Finding
 pub mod Grouped
+pub mod ListMoves
+pub mod ListMovesLeft
 pub mod Lists
 pub mod Stickers
 pub mod Entries
@@ -24,6 +27,7 @@ pub mod Memory
 pub mod Changed
 pub mod Reports
 pub mod Before
+pub mod Keeping
 pub mod Size
 pub mod Looks
 pub mod Work
@@ -31,3 +35,4 @@ pub mod Held
 pub mod Scanning
 pub mod ScanningRows
 pub mod Sound
+pub mod Restart

@@ -8,6 +8,7 @@ use Rattle.command_text.specs.declared.command.lists.ListsCommand.{ListsCommand}
 use Rattle.command_text.specs.declared.command.lists.ListsCommand.TheVariants as commands
 use Rattle.command_text.specs.declared.command.lists.SaveMode.TheVariants.{Create, Append, Replace}
 use Rattle.command_text.specs.declared.range.PositionRange.{PositionRange}
+use Rattle.command_text.specs.declared.range.PositionRange.TheVariants.{One}
 use Rattle.command_text.specs.declared.refusal.CommandRefusal.{CommandRefusal}
 use Rattle.command_text.specs.declared.refusal.CommandRefusal.TheVariants.{BadPlaylistName, NoSuchPlaylist, NoCurrentSong}
 use Rattle.command_text.specs.declared.tag_mask.TagMask.{TagMask}
@@ -23,6 +24,7 @@ use Rattle.stored_lists.specs.Lists.{Stored, names_of, songs_of}
 use Rattle.stored_lists.specs.Name.{is_good_name}
 use Rattle.stored_lists.specs.Songs.{Uris}
 use Rattle.machine_core.specs.Adding.{adds, can_count}
+use Rattle.machine_core.specs.ListMoves.{adds_songs, moves_songs}
 use Rattle.machine_core.specs.Meaning.{Meaning, Meant, must, says, stands, does, edits, unless_refused, refusal_of_all}
 use Rattle.machine_core.specs.Named.{numbers_of, numbers_named}
 use Rattle.machine_core.specs.Spans.{span_in, span_or_all}
@@ -72,11 +74,25 @@ replaces name m =
     unless_refused (told (refusal_of_all (replace_ops name) m.saved))
     (if replaces_nothing name m.saved then stands [] m else replaced name m)
 
+-- a block of a playlist goes to a place of the rest
+abbrev pub moves_range : List ℕ → PositionRange → ℕ → MachineState → Meant
+moves_range name range to m = do
+  songs ← songs_named m.saved.lists name
+  block ← span_in range (length songs)
+  moves_songs name block to (length songs) m
+
+-- one song goes to a place of a playlist, or a block to a place of the rest
+abbrev pub moves_in : List ℕ → PositionRange → ℕ → MachineState → Meant
+moves_in name (One from) to m = do
+  good ← list_name name
+  edits (Lists (Move good from to)) [] m
+moves_in name range to m = moves_range name range to m
+
 unfoldable pub lists_meaning : TagMask → ListsCommand → MachineState → Meant
-lists_meaning mask (commands.Add name path) m = do
+lists_meaning mask (commands.Add name path to) m = do
   good ← list_name name
   rows ← numbers_named m.saved.profile m.saved.songs path
-  edits (Lists (Add good rows)) [] m
+  adds_songs good rows to m
 lists_meaning mask (commands.Clear name) m = do
   good ← list_name name
   edits (Lists (Clear good)) [] m
@@ -88,9 +104,7 @@ lists_meaning mask (commands.Load name range to) m = do
   songs ← songs_named m.saved.lists name
   rows ← rows_to_load m.saved.songs songs range to (shown_of m).current
   adds to rows [] m
-lists_meaning mask (commands.Move name from to) m = do
-  good ← list_name name
-  edits (Lists (Move good from to)) [] m
+lists_meaning mask (commands.Move name range to) m = moves_in name range to m
 lists_meaning mask commands.Names m = says (name_lines m.saved.profile m.saved.lists) m
 lists_meaning mask (commands.Remove name) m = do
   good ← list_name name

@@ -1,6 +1,6 @@
 -- The limit on what one request may look at. Each song or entry counts 1 where a command passes over it, 10 for each time that it is
 -- asked something, or a word is drawn for it, and 40 where it is sorted.
-use Rattle.std.specs.Prelude.{ℕ, ◌+◌, ◌-◌, ◌*◌, ◌&&◌, min, length, nat_le, nat_lt, Option, Some, None, Result, Ok, Err}
+use Rattle.std.specs.Prelude.{ℕ, ◌+◌, ◌-◌, ◌*◌, ◌&&◌, min, List, length, nat_le, nat_lt, Option, Some, None, Result, Ok, Err}
 use Rattle.std.specs.Prelude.{if◌then◌else◌}
 use Rattle.command_text.specs.declared.command.Command.{Command}
 use Rattle.command_text.specs.declared.command.Command.TheVariants as commands
@@ -17,16 +17,26 @@ use Rattle.command_text.specs.declared.command.settings.SettingsCommand.{Setting
 use Rattle.command_text.specs.declared.command.settings.SettingsCommand.TheVariants as settings
 use Rattle.command_text.specs.declared.command.sticker.StickersCommand.{StickersCommand}
 use Rattle.command_text.specs.declared.command.sticker.StickersCommand.TheVariants as stickers
+use Rattle.command_text.specs.declared.range.PositionRange.{PositionRange}
+use Rattle.command_text.specs.declared.range.PositionRange.TheVariants.{One}
 use Rattle.command_text.specs.declared.range.Window.{Window}
 use Rattle.command_text.specs.declared.refusal.CommandRefusal.{CommandRefusal}
 use Rattle.command_text.specs.declared.refusal.CommandRefusal.TheVariants.{RequestTooLarge}
 use Rattle.filter_expr.specs.Looks.{song_looks, tests_of, told_looks}
 use Rattle.filter_expr.specs.Tree.{Tree}
-use Rattle.filter_expr.specs.declared.case.Case.TheVariants.{Exact, Folded}
+use Rattle.filter_expr.specs.declared.case.Case.TheVariants.{Exact}
 use Rattle.filter_expr.specs.declared.order.SortOrder.{SortOrder}
 use Rattle.profile.specs.declared.profile.Profile.{Profile}
 use Rattle.profile.specs.declared.profile.Profile.TheVariants.{Named, Wide}
+use Rattle.song_db.specs.Place.{place_of}
+use Rattle.song_db.specs.Query.{is_folder, number_at}
+use Rattle.song_db.specs.Row.{Row}
+use Rattle.song_db.specs.Told.{told_under}
+use Rattle.song_db.specs.declared.place.Place.{Place}
+use Rattle.song_files.specs.declared.tag.TheConstants.{TAG_COUNT}
+use Rattle.stored_lists.specs.Lists.{songs_or_none}
 use Rattle.stored_lists.specs.Songs.{Uris}
+use Rattle.machine_core.specs.Lent.{lent}
 use Rattle.machine_core.specs.Lists.{songs_named}
 use Rattle.machine_core.specs.Meaning.{Meant}
 use Rattle.machine_core.specs.Queue.{is_held, place_of_id, queue_length}
@@ -99,15 +109,19 @@ abbrev pub groups_looks : ℕ → Option Tree → MachineState → ℕ
 groups_looks tags None m = 10 * (tags * length m.saved.songs)
 groups_looks tags (Some tree) m = 10 * song_looks Exact tree (3 + tags) m.saved.songs
 
+-- entries that are taken as they stand, or are sorted
+abbrev pub entries_looks : Search → MachineState → ℕ
+entries_looks search m = 10 * ((tests_of search.filter + 1 + arranged m.saved.profile search.sort None) * queue_length m)
+
 abbrev pub finding_looks : FindingCommand → MachineState → ℕ
 finding_looks (finding.Add search to) m = search_looks search m
-finding_looks (finding.AddToPlaylist name tree) m = 10 * song_looks Folded tree 0 m.saved.songs
+finding_looks (finding.AddToPlaylist name search) m = search_looks search m
 finding_looks (finding.Count tree) m = 10 * song_looks Exact tree 1 m.saved.songs
 finding_looks (finding.CountGroups tag tree) m = values_looks tree m
 finding_looks (finding.Find search) m = search_looks search m
-finding_looks (finding.InQueue case tree) m = 10 * ((tests_of tree + 1) * queue_length m)
+finding_looks (finding.InQueue search) m = entries_looks search m
 finding_looks (finding.ListFiles tree) m = values_looks tree m
-finding_looks (finding.ListGroups tags tree) m = groups_looks (min (length tags) 31) tree m
+finding_looks (finding.ListGroups tags tree) m = groups_looks (min (length tags) TAG_COUNT) tree m
 finding_looks (finding.ListTag tag tree) m = values_looks tree m
 
 -- the songs of a playlist, if there is one of this name
@@ -115,14 +129,45 @@ abbrev pub list_looks : Result Uris CommandRefusal → ℕ
 list_looks (Err refusal) = 0
 list_looks (Ok songs) = 50 * length songs
 
+-- how many songs stand between two places of a playlist
+abbrev pub gap_of : Uris → ℕ → ℕ → ℕ
+gap_of songs from to = min (length songs) (if nat_lt from to then to - from else from - to)
+
 -- the songs between two places of a playlist
 abbrev pub moved_looks : Result Uris CommandRefusal → ℕ → ℕ → ℕ
 moved_looks (Err refusal) from to = 0
-moved_looks (Ok songs) from to = min (length songs) (if nat_lt from to then to - from else from - to)
+moved_looks (Ok songs) from to = gap_of songs from to
+
+-- the same for each song of a block
+abbrev pub block_looks : Result Uris CommandRefusal → PositionRange → ℕ → ℕ
+block_looks (Err refusal) range to = 0
+block_looks (Ok songs) range to =
+    span_looks (span_in range (length songs)) (λ block. (count_of block + 1) * (gap_of songs block.start to + 1))
+
+abbrev pub range_looks : Result Uris CommandRefusal → PositionRange → ℕ → ℕ
+range_looks songs (One from) to = moved_looks songs from to
+range_looks songs range to = block_looks songs range to
+
+-- the songs that a path names
+abbrev pub count_under : List Row → Place → ℕ
+count_under songs place = if is_folder songs place then length (told_under songs place) else 0
+
+abbrev pub count_or_under : List Row → List ℕ → Option ℕ → ℕ
+count_or_under songs path (Some number) = 1
+count_or_under songs path None = count_under songs (place_of (lent path))
+
+abbrev pub count_named : List Row → List ℕ → ℕ
+count_named songs path = count_or_under songs path (number_at songs path)
+
+-- for each song that comes into a playlist, those behind its place
+abbrev pub added_looks : List ℕ → List ℕ → Option ℕ → MachineState → ℕ
+added_looks name path None m = 0
+added_looks name path (Some at) m = count_named m.saved.songs path * (length (songs_or_none m.saved.lists name) - at)
 
 abbrev pub lists_looks : ListsCommand → MachineState → ℕ
+lists_looks (lists.Add name path to) m = added_looks name path to m
 lists_looks (lists.Load name range to) m = list_looks (songs_named m.saved.lists name)
-lists_looks (lists.Move name from to) m = moved_looks (songs_named m.saved.lists name) from to
+lists_looks (lists.Move name range to) m = range_looks (songs_named m.saved.lists name) range to
 lists_looks (lists.Save name mode) m = 10 * queue_length m
 lists_looks (lists.SongsInfo name) m = list_looks (songs_named m.saved.lists name)
 lists_looks other m = 0
@@ -132,6 +177,7 @@ stickers_looks (stickers.Find uri name bound) m = 10 * length m.saved.stickers
 stickers_looks other m = 0
 
 abbrev pub database_looks : DatabaseCommand → MachineState → ℕ
+database_looks (database.ListFiles path) m = length m.saved.songs
 database_looks (database.ListInfo path) m = length m.saved.songs
 database_looks database.Stats m = length m.saved.songs
 database_looks other m = 0

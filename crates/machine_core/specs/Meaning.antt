@@ -12,6 +12,7 @@ use Rattle.state_codec.specs.declared.op.Op.TheVariants.{SetOrder}
 use Rattle.state_codec.specs.declared.refusal.OpRefusal.{OpRefusal}
 use Rattle.machine_core.specs.State.{MachineState}
 use Rattle.machine_core.specs.declared.job.Job.{Job}
+use Rattle.machine_core.specs.declared.job.WaitingJob.{WaitingJob}
 use Rattle.machine_core.specs.Told.{told}
 use Rattle.machine_core.specs.Followed.{Following, followed}
 
@@ -46,6 +47,10 @@ turns player m = Ok (record { text = []; ops = []; after = record m { player = p
 -- the job alone changes
 abbrev pub begins : Job → List ℕ → MachineState → Result Meaning CommandRefusal
 begins job text m = Ok (record { text = text; ops = []; after = record m { job = job } })
+
+-- a job waits behind those that wait already
+abbrev pub waits : WaitingJob → List ℕ → MachineState → Result Meaning CommandRefusal
+waits job text m = Ok (record { text = text; ops = []; after = record m { waiting = m.waiting ++ job ∷ [] } })
 
 -- a new random order
 abbrev pub order_ops : Option ℕ → List Op

@@ -15,6 +15,7 @@ use Rattle.command_text.specs.declared.command.messages.MessagesCommand.TheVaria
 use Rattle.command_text.specs.declared.command.setup.SetupCommand.{SetupCommand}
 use Rattle.command_text.specs.declared.command.setup.SetupCommand.TheVariants as setup
 use Rattle.command_text.specs.Masks.{all_in_mask}
+use Rattle.machine_core.specs.Database.{may_wait}
 use Rattle.machine_core.specs.Meaning.{Meant}
 use Rattle.machine_core.specs.Queue.{queue_meaning}
 use Rattle.machine_core.specs.Settings.{settings_meaning}
@@ -35,12 +36,15 @@ settings_take_memory settings.GetVolume m = true
 settings_take_memory settings.Status m = true
 settings_take_memory command m = grows (settings_meaning command m)
 
--- `update` beside a job that runs is refused before it takes any
+-- `update` beside a job that runs, where it can't wait, is refused before it takes any
+abbrev pub takes_a_job : MachineState → Bool
+takes_a_job m = not m.job.runs || may_wait m.saved.profile m.waiting
+
 abbrev pub database_takes_memory : DatabaseCommand → MachineState → Bool
 database_takes_memory (database.ChangeMask change) m = false
 database_takes_memory database.NotCommands m = false
-database_takes_memory (database.Update place) m = not m.job.runs
-database_takes_memory (database.Rescan place) m = not m.job.runs
+database_takes_memory (database.Update place) m = takes_a_job m
+database_takes_memory (database.Rescan place) m = takes_a_job m
 database_takes_memory _ m = true
 
 -- those that take entries out of the queue or exchange their places take memory for their op alone

@@ -1,5 +1,5 @@
 -- What the events of a scan do: a batch of changes of rows, and the end.
-use Rattle.std.specs.Prelude.{ℕ, Bool, true, false, ◌&&◌, ◌==◌, List, [], ◌∷◌, ◌++◌, filter, if◌then◌else◌}
+use Rattle.std.specs.Prelude.{ℕ, Bool, true, false, ◌&&◌, ◌==◌, List, [], ◌∷◌, ◌++◌, drop, filter, if◌then◌else◌}
 use Rattle.profile.specs.declared.profile.Profile.{Profile}
 use Rattle.song_db.specs.Change.{after_change}
 use Rattle.song_db.specs.Effect.{effect_of, changes_a_row}
@@ -9,11 +9,13 @@ use Rattle.state_codec.specs.Applied.{after_all}
 use Rattle.state_codec.specs.Changes.{is_kept_change}
 use Rattle.state_codec.specs.declared.op.Op.TheVariants.{Batch}
 use Rattle.machine_core.specs.Changed.{changed}
+use Rattle.machine_core.specs.Database.{asked, begun}
 use Rattle.machine_core.specs.Followed.{followed}
 use Rattle.machine_core.specs.Happening.{Happening, nothing_happens}
 use Rattle.machine_core.specs.Meaning.{order_ops}
 use Rattle.machine_core.specs.State.{MachineState}
 use Rattle.machine_core.specs.declared.job.Job.{Job}
+use Rattle.machine_core.specs.declared.job.WaitingJob.{WaitingJob}
 
 -- the job of this number runs
 abbrev pub is_running : ℕ → MachineState → Bool
@@ -23,11 +25,25 @@ is_running job m = m.job.runs && m.job.number == job
 abbrev pub over : ℕ → Job → Job
 over now job = record job { runs = false; read = now }
 
--- the job is over; `database` is told where one of its changes changed a row
+-- the job behind it: the one that waited longest begins, if one waits
+abbrev pub job_behind : List WaitingJob → ℕ → Job → Job
+job_behind [] now job = over now job
+job_behind (next ∷ waiting) now job = begun next.number next.place next.opens_all now
+
+abbrev pub after_job : MachineState → MachineState
+after_job m = record m { job = job_behind m.waiting m.clock.now m.job; waiting = drop 1 m.waiting }
+
+-- the job that runs and those that wait, each as it was asked for
+abbrev pub jobs_of : MachineState → List WaitingJob
+jobs_of m = if m.job.runs then asked m.job.number m.job.place m.job.opens_all ∷ m.waiting else []
+
+-- the job is over, which `update` tells; `database` is told where one of its changes changed a row
 abbrev pub ends_scan : MachineState → Happening
-ends_scan m =
-    let after = record m { job = over m.clock.now m.job } in
-    record { ops = []; after = after; changed = record (changed m after) { database = m.job.has_changed_a_row } }
+ends_scan m = record {
+  ops = [];
+  after = after_job m;
+  changed = record (changed m (after_job m)) { update = true; database = m.job.has_changed_a_row };
+}
 
 abbrev pub when_scanned : ℕ → MachineState → Happening
 when_scanned job m = if is_running job m then ends_scan m else nothing_happens m

@@ -1,5 +1,5 @@
 -- The daemon without its clients: of it alone commands speak.
-use Rattle.std.specs.Prelude.{[], false, None}
+use Rattle.std.specs.Prelude.{List, [], false, None}
 use Rattle.player_core.specs.declared.manners.Manners.{Manners}
 use Rattle.player_core.specs.declared.manners.Manners.TheVariants as manners
 use Rattle.player_core.specs.declared.playing.PlayState.TheVariants.{Stop}
@@ -12,12 +12,15 @@ use Rattle.profile.specs.declared.profile.Profile.TheVariants.{Named, Wide}
 use Rattle.state_codec.specs.SavedState.{SavedState}
 use Rattle.machine_core.specs.declared.clock.ClockTime.{ClockTime}
 use Rattle.machine_core.specs.declared.job.Job.{Job}
+use Rattle.machine_core.specs.declared.job.WaitingJob.{WaitingJob}
 
--- the saved half; the player, the job of the database and what a clock told last, which begin anew with each start
+-- the saved half; the player, the job of the database, those that wait behind it and what a clock told last, which begin anew with each
+-- start
 pub record MachineState : Type 0 where
   pub saved : SavedState
   pub player : PlayerState
   pub job : Job
+  pub waiting : List WaitingJob
   pub clock : ClockTime
 
 abbrev pub idle_player : PlayerState
@@ -33,7 +36,7 @@ untold = record { began = 0; uptime = 0; now = 0 }
 
 -- a machine that has just begun with what was kept
 abbrev pub started : SavedState → MachineState
-started saved = record { saved = saved; player = idle_player; job = no_job; clock = untold }
+started saved = record { saved = saved; player = idle_player; job = no_job; waiting = []; clock = untold }
 
 -- a clock tells the time
 abbrev pub told_time : ClockTime → MachineState → MachineState

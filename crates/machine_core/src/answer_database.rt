@@ -2,14 +2,17 @@
 ghost use Rattle.std.specs.Prelude.{◌≡◌, [], ◌++◌, flat_map, if◌then◌else◌, option_copied};
 ghost use Rattle.command_text.specs.Answer.{Adds};
 ghost use Rattle.command_text.specs.AnswerNames.{directory_line, tag_type_line};
-ghost use Rattle.command_text.specs.AnswerSongs.{song_lines};
+ghost use Rattle.command_text.specs.AnswerSongs.{named_file_lines, song_lines};
 ghost use Rattle.profile.specs.declared.profile.Profile.TheVariants.{Wide};
 ghost use Rattle.song_db.specs.ToldWalk.{is_text, told_folders_in, told_songs_in};
 ghost use Rattle.song_db.specs.Walk.{item_of};
 ghost use Rattle.song_files.specs.TagSet.{has_tag, tags_in};
-ghost use Rattle.machine_core.specs.Database.{detail_lines, folder_line, item_lines, shown_type};
+ghost use Rattle.machine_core.specs.Database.{detail_lines, folder_line, item_lines, name_in, shown_type};
 
-use command_text::{NoMemory, TagMask, write_directory, write_file, write_song, write_tag_type};
+use command_text::{
+    NoMemory, TagMask, write_directory, write_file, write_named_file, write_pair, write_song,
+    write_tag_type,
+};
 use song_db::{Listed, Place, SongRow, ToldWalk, Walk};
 use song_files::{TAG_COUNT, Tag, TagSet};
 
@@ -164,6 +167,65 @@ fn write_folders_in(out: &mut Vec<u8>, rows: &[SongRow], place: Place<'_>) -> Re
         before = Some(folder);
     }
     Ok(())
+}
+
+// A path without the folder that it stands in.
+fn name_in<'a>(place: Place<'_>, path: &'a str) -> &'a [u8]
+    ensures { result.now ≡ name_in place.entry path.now }
+{
+    let path = path.as_bytes();
+    match place {
+        Place::Root => path,
+        Place::At(folder) => &path[path.len().min(folder.len() + 1)..],
+    }
+}
+
+// Adds the files of the songs right in a place by their names, of those under it.
+fn write_file_names(out: &mut Vec<u8>, rows: &[SongRow], place: Place<'_>) -> Result<(), NoMemory>
+    ensures { Adds (flat_map (λ row. named_file_lines (name_in place.entry row.uri) row) (told_songs_in place.entry rows.now))
+        result out.old out.new }
+{
+    for row in rows {
+        let uri = row.uri();
+        if place.folder_of(uri).is_some() {
+            continue;
+        }
+        write_named_file(out, name_in(place, uri), row)?;
+    }
+    Ok(())
+}
+
+// Adds the folders right in a place by their names, of those that songs under it stand in.
+fn write_folder_names(out: &mut Vec<u8>, rows: &[SongRow], place: Place<'_>) -> Result<(), NoMemory>
+    ensures { Adds (flat_map (λ folder. directory_line (name_in place.entry folder)) (told_folders_in place.entry rows.now))
+        result out.old out.new }
+{
+    let mut last: Option<&str> = None;
+    for row in rows {
+        let Some(folder) = place.folder_of(row.uri()) else {
+            continue;
+        };
+        if is_text(folder, last) {
+            continue;
+        }
+        write_pair(out, "directory", name_in(place, folder))?;
+        last = Some(folder);
+    }
+    Ok(())
+}
+
+// Adds what stands right in a place by its names, of the songs under it.
+pub(crate) fn write_names_in(
+    out: &mut Vec<u8>,
+    rows: &[SongRow],
+    place: Place<'_>,
+) -> Result<(), NoMemory>
+    ensures { Adds (flat_map (λ row. named_file_lines (name_in place.entry row.uri) row) (told_songs_in place.entry rows.now)
+        ++ flat_map (λ folder. directory_line (name_in place.entry folder)) (told_folders_in place.entry rows.now))
+        result out.old out.new }
+{
+    write_file_names(out, rows, place)?;
+    write_folder_names(out, rows, place)
 }
 
 // Adds the songs right in a place and then the folders, of the songs under it.

@@ -25,6 +25,22 @@ pub(crate) struct Before {
     runs: bool,
 }
 
+impl Before {
+    // Whether songs were played at random.
+    pub(crate) fn random(&self) -> bool
+        ensures { result ≡ self.now.options.random }
+    {
+        self.options.random
+    }
+
+    // The song that was current.
+    pub(crate) fn current(&self) -> Option<u32>
+        ensures { result ≡ self.now.current }
+    {
+        self.current
+    }
+}
+
 impl Machine {
     // What is kept of the machine before a command or an event.
     pub(crate) fn before(&self) -> Before
@@ -71,7 +87,7 @@ impl Machine {
     }
 
     // The player's state, song and ticket are those of before.
-    fn plays_on(&self, before: &Before) -> bool
+    pub(crate) fn plays_on(&self, before: &Before) -> bool
         ensures { result ≡ plays_on before.now self.now }
     {
         before.state == self.player.state()

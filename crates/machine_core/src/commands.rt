@@ -4,13 +4,14 @@ ghost use Rattle.machine_core.specs.Changed.{changed};
 ghost use Rattle.machine_core.specs.Command.{meaning};
 ghost use Rattle.machine_core.specs.Looks.{looked, looks_of, weighed};
 ghost use Rattle.machine_core.specs.Memory.{takes_memory};
-ghost use Rattle.machine_core.specs.Work.{HasRoom, Performs, command_room};
+ghost use Rattle.machine_core.specs.Work.{CanKeepBy, HasRoom, Performs, PerformsAside, PerformsKept, command_room};
 
 use crate::looks::Looks;
 use crate::machine::Machine;
 use crate::work::{Failure, Work};
 use command_text::{Command, TagMask};
 use idle_masks::Subsystems;
+use profile::Profile;
 use std::alloc::Global;
 
 mod database;
@@ -29,6 +30,8 @@ impl Machine {
     /// which the request would look at more than it may is refused before it looks at anything. Refused, or without memory, it leaves
     /// machine and answer as they were.
     ///
+    /// Where it changes what plays, the player's place is kept behind it: room for that is taken before.
+    ///
     /// Memory is taken for the lines of a command, with the room behind them, for what it looks up and for what it changes; `NoMemory`
     /// comes of no command that does nothing of these.
     pub fn perform(
@@ -40,17 +43,57 @@ impl Machine {
         looks: &mut Looks,
     ) -> Result<Subsystems, Failure>
         requires room { HasRoom command_room work.old }
-        ensures performs { Performs (weighed looks.old (looks_of command.entry self.old) (meaning mask command.entry self.old))
+        requires keeps { CanKeepBy self.old.saved.profile work.old }
+        ensures performs { PerformsKept (weighed looks.old (looks_of command.entry self.old) (meaning mask command.entry self.old))
             self.old self.new work.old work.new result }
         ensures looks { looks.new ≡ looked looks.old (looks_of command.entry self.old) }
         ensures changed { IfOk result (λ set. set ≡ changed self.old self.new) }
         ensures memory { result ≡ Err Failure.NoMemory → takes_memory command.entry self.old ≡ true }
     {
         looks.take(self.looks_of(&command))?;
+        self.perform_kept(alloc, mask, command, work)
+    }
+
+    // Performs it, and keeps the player's place behind it.
+    fn perform_kept(
+        &mut self,
+        alloc: Global,
+        mask: TagMask,
+        command: Command<'_>,
+        work: &mut Work,
+    ) -> Result<Subsystems, Failure>
+        requires room { HasRoom command_room work.old }
+        requires keeps { CanKeepBy self.old.saved.profile work.old }
+        ensures performs { PerformsKept (meaning mask command.entry self.old) self.old self.new work.old work.new result }
+        ensures changed { IfOk result (λ set. set ≡ changed self.old self.new) }
+        ensures memory { result ≡ Err Failure.NoMemory → takes_memory command.entry self.old ≡ true }
+    {
+        let profile = self.saved.profile();
         let before = self.before();
         let made = work.ops.len();
-        self.dispatch(alloc, mask, command, work)?;
+        self.perform_aside(alloc, mask, command, profile, work)?;
+        work.keep_place(self, profile, &before);
         Ok(self.changed_since(&before, &work.ops[made..]))
+    }
+
+    // Performs it, with room to keep the place left free behind it.
+    fn perform_aside(
+        &mut self,
+        alloc: Global,
+        mask: TagMask,
+        command: Command<'_>,
+        profile: Profile,
+        work: &mut Work,
+    ) -> Result<(), Failure>
+        requires room { HasRoom command_room work.old }
+        requires under { profile ≡ self.old.saved.profile }
+        ensures performs { PerformsAside (meaning mask command.entry self.old) self.old self.new work.old work.new result }
+        ensures memory { result ≡ Err Failure.NoMemory → takes_memory command.entry self.old ≡ true }
+    {
+        work.set_aside(profile)?;
+        let done = self.dispatch(alloc, mask, command, work);
+        work.give_back(profile);
+        done
     }
 
     // The command of each topic.

@@ -1,4 +1,7 @@
 // The number of the last scan, the place that it looks at, and what became of it.
+ghost use Rattle.std.specs.Prelude.{◌≡◌};
+ghost use Rattle.machine_core.specs.Database.{next_job};
+
 use song_db::Uri;
 
 /// Numbers are shown as 31 bits.
@@ -20,10 +23,29 @@ pub struct Job {
     pub read: u64,
 }
 
+/// As many jobs wait at most.
+pub(crate) const MAX_WAITING_JOBS: usize = 32;
+
+/// A job that was asked for while another ran, and begins behind those before it.
+#[derive(Debug, Drop)]
+pub struct WaitingJob {
+    pub number: u32,
+    /// Its place; none is all.
+    pub place: Option<Uri>,
+    pub opens_all: bool,
+}
+
+/// The number of the job that comes after one of this number: jobs count from 1, and begin again behind the last number.
+pub(crate) fn next_job(number: u32) -> u32
+    ensures { result ≡ next_job number }
+{
+    if number < LAST_NUMBER { number + 1 } else { 1 }
+}
+
 impl Job {
     ghost use Rattle.std.specs.Prelude.{◌≡◌};
     ghost use Rattle.std.specs.Prelude.{option_map};
-    ghost use Rattle.machine_core.specs.Database.{begun, next_job};
+    ghost use Rattle.machine_core.specs.Database.{begun};
     ghost use Rattle.machine_core.specs.State.{no_job};
 
     /// No job has begun yet.
@@ -51,17 +73,6 @@ impl Job {
             runs: true,
             has_changed_a_row: false,
             read: now,
-        }
-    }
-
-    /// The number of the job that comes after this one: jobs count from 1, and begin again behind the last number.
-    pub(crate) fn next_number(&self) -> u32
-        ensures { result ≡ next_job self.now.number }
-    {
-        if self.number < LAST_NUMBER {
-            self.number + 1
-        } else {
-            1
         }
     }
 }

@@ -14,6 +14,7 @@ mod current;
 mod edit;
 mod happened;
 pub mod job;
+mod keeping;
 pub mod laws;
 pub mod looks;
 pub mod machine;
@@ -28,7 +29,7 @@ pub mod work;
 
 pub use clock::ClockTime;
 pub use happened::Happened;
-pub use job::Job;
+pub use job::{Job, WaitingJob};
 pub use looks::{Looks, MAX_LOOKS};
 pub use machine::Machine;
 pub use work::{Failure, MAX_REQUEST_BYTES, Work};

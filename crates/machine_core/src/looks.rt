@@ -1,8 +1,9 @@
 // What a request may look at: what a command looks at is told before it is performed.
-ghost use Rattle.std.specs.Prelude.{◌≡◌, ◌+◌, ◌<◌, ◌≤◌, OnErr, OnOk, IfErr, length};
+ghost use Rattle.std.specs.Prelude.{◌≡◌, ◌+◌, ◌<◌, ◌≤◌, ◌^◌, OnErr, OnOk, IfErr, length};
 ghost use Rattle.std.specs.Option.{option_copied};
 ghost use Rattle.command_text.specs.declared.refusal.CommandRefusal.TheVariants.{RequestTooLarge};
-ghost use Rattle.machine_core.specs.Looks.{alone_looks, arranged, choice_looks, database_looks, finding_looks, groups_looks};
+ghost use Rattle.machine_core.specs.Looks.{alone_looks, arranged, choice_looks, database_looks, entries_looks, finding_looks, groups_looks};
+ghost use Rattle.machine_core.specs.Looks.{added_looks, block_looks, count_named, gap_of, range_looks};
 ghost use Rattle.machine_core.specs.Looks.{leaving_looks, list_looks, lists_looks, looks_of, max_looks, moved_looks, parted, queue_looks};
 ghost use Rattle.machine_core.specs.Looks.{search_looks, settings_looks, stickers_looks, values_looks};
 ghost use Rattle.machine_core.specs.Lists.{songs_named};
@@ -11,18 +12,18 @@ ghost use Rattle.machine_core.specs.Queue.{place_of_id};
 use crate::machine::Machine;
 use crate::span::{Span, span_in, span_or_all};
 use command_text::{
-    Command, CommandRefusal, DatabaseCommand, FindingCommand, ListsCommand, QueueCommand, Search,
-    SettingsCommand, StickersCommand, Window,
+    Command, CommandRefusal, DatabaseCommand, FindingCommand, ListsCommand, PositionRange,
+    QueueCommand, Search, SettingsCommand, StickersCommand, Window,
 };
 use filter_expr::{Case, Filter, SortOrder};
 use profile::Profile;
+use song_db::Place;
+use song_files::TAG_COUNT;
 use std::marker::Model;
+use stored_lists::Songs;
 
 /// The commands of one request look at so much at most; docs/PROTOCOL.md says what counts how much.
 pub const MAX_LOOKS: u64 = 10_000_000;
-
-// There are no more tags, and none stands twice in a `list`.
-const MOST_TAGS: usize = 31;
 
 /// How much the commands of a request have looked at so far.
 #[derive(Debug, Drop)]
@@ -94,6 +95,15 @@ fn parted(profile: Profile) -> u8
         Profile::Named => 1,
         Profile::Wide => 4,
     }
+}
+
+// How many songs stand between two places of a playlist.
+fn gap_of(songs: &Songs, from: u32, to: u32) -> u64
+    ensures value { result ≡ gap_of songs.now from to }
+    ensures few { result < 2 ^ 32 }
+{
+    let between = if from < to { to - from } else { from - to };
+    (songs.len() as u64).min(u64::from(between))
 }
 
 impl Machine {
@@ -225,25 +235,29 @@ impl Machine {
         }
     }
 
+    // Of entries that are taken as they stand, or are sorted.
+    fn entries_looks(&self, search: &Search) -> u64
+        ensures { result ≡ entries_looks search.now self.now }
+    {
+        let more = arranged(self.saved.profile(), search.sort, None);
+        10 * ((u64::from(search.filter.tests()) + 1 + u64::from(more)) * self.entry_count())
+    }
+
     fn finding_looks(&self, command: &FindingCommand<'_>) -> u64
         ensures { result ≡ finding_looks command.now self.now }
     {
         match command {
             FindingCommand::Add(search, _) => self.search_looks(search),
-            FindingCommand::AddToPlaylist(_, filter) => {
-                10 * filter.looks(self.saved.songs(), Case::Folded, 0)
-            }
+            FindingCommand::AddToPlaylist(_, search) => self.search_looks(search),
             FindingCommand::Count(filter) => {
                 10 * filter.looks(self.saved.songs(), Case::Exact, 1)
             }
             FindingCommand::CountGroups(_, filter) => self.values_looks(filter.as_ref()),
             FindingCommand::Find(search) => self.search_looks(search),
-            FindingCommand::InQueue(_, filter) => {
-                10 * ((u64::from(filter.tests()) + 1) * self.entry_count())
-            }
+            FindingCommand::InQueue(search) => self.entries_looks(search),
             FindingCommand::ListFiles(filter) => self.values_looks(filter.as_ref()),
             FindingCommand::ListGroups(tags, filter) => {
-                let tags = tags.as_slice().len().min(MOST_TAGS) as u8;
+                let tags = tags.as_slice().len().min(TAG_COUNT) as u8;
                 self.groups_looks(tags, filter.as_ref())
             }
             FindingCommand::ListTag(_, filter) => self.values_looks(filter.as_ref()),
@@ -267,11 +281,64 @@ impl Machine {
         ensures { result ≡ moved_looks (songs_named self.now.saved.lists name.now) from to }
     {
         match self.saved.lists().get(name) {
-            Ok(songs) => {
-                let between = if from < to { to - from } else { from - to };
-                (songs.len() as u64).min(u64::from(between))
-            }
+            Ok(songs) => gap_of(songs, from, to),
             Err(_) => 0,
+        }
+    }
+
+    // The same for each song of a range.
+    fn block_looks(&self, name: &str, range: PositionRange, to: u32) -> u64
+        ensures { result ≡ block_looks (songs_named self.now.saved.lists name.now) range to }
+    {
+        let lists = self.saved.lists();
+        let _limits = lists.len();
+        match lists.get(name) {
+            Ok(songs) => match span_in(range, songs.len() as u32) {
+                Ok(block) => {
+                    (u64::from(block.count()) + 1) * (gap_of(songs, block.start, to) + 1)
+                }
+                Err(_) => 0,
+            },
+            Err(_) => 0,
+        }
+    }
+
+    fn range_looks(&self, name: &str, range: PositionRange, to: u32) -> u64
+        ensures { result ≡ range_looks (songs_named self.now.saved.lists name.now) range to }
+    {
+        match range {
+            PositionRange::One(from) => self.moved_looks(name, from, to),
+            PositionRange::From(_) | PositionRange::Between(_, _) => {
+                self.block_looks(name, range, to)
+            }
+        }
+    }
+
+    // How many songs a path names.
+    fn count_named(&self, path: &str) -> u64
+        ensures count { result ≡ count_named self.now.saved.songs path.now }
+        ensures few { result ≤ 65536 }
+    {
+        let songs = self.saved.songs();
+        let _limit = songs.len();
+        match songs.row_number(path) {
+            Ok(_) => 1,
+            Err(_) => match songs.told_under(Place::read(path)) {
+                Ok(rows) => rows.len() as u64,
+                Err(_) => 0,
+            },
+        }
+    }
+
+    // For each song that comes into a playlist, those behind its place.
+    fn added_looks(&self, name: &str, path: &str, to: Option<u32>) -> u64
+        ensures { result ≡ added_looks name.now path.now to self.now }
+    {
+        match to {
+            None => 0,
+            Some(at) => {
+                self.count_named(path) * u64::from(self.song_count(name).saturating_sub(at))
+            }
         }
     }
 
@@ -279,8 +346,11 @@ impl Machine {
         ensures { result ≡ lists_looks command.now self.now }
     {
         match command {
+            ListsCommand::Add(name, path, to) => {
+                self.added_looks(name.as_str(), path.as_str(), *to)
+            }
             ListsCommand::Load(name, _, _) => self.list_looks(name.as_str()),
-            ListsCommand::Move(name, from, to) => self.moved_looks(name.as_str(), *from, *to),
+            ListsCommand::Move(name, range, to) => self.range_looks(name.as_str(), *range, *to),
             ListsCommand::Save(_, _) => 10 * self.entry_count(),
             ListsCommand::SongsInfo(name) => self.list_looks(name.as_str()),
             _ => 0,
@@ -300,6 +370,7 @@ impl Machine {
         ensures { result ≡ database_looks command.now self.now }
     {
         match command {
+            DatabaseCommand::ListFiles(_) => self.row_count(),
             DatabaseCommand::ListInfo(_) => self.row_count(),
             DatabaseCommand::Stats => self.row_count(),
             _ => 0,

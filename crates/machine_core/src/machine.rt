@@ -3,7 +3,7 @@ ghost use Rattle.std.specs.Prelude.{◌≡◌};
 ghost use Rattle.machine_core.specs.State.{manners_of, started};
 
 use crate::clock::ClockTime;
-use crate::job::Job;
+use crate::job::{Job, WaitingJob};
 use player_core::{KeptNext, Manners, PlaySettings, Player};
 use profile::Profile;
 use state_codec::Saved;
@@ -20,12 +20,15 @@ fn manners_of(profile: Profile) -> Manners
     }
 }
 
-/// The daemon without its clients: the half that is saved, the player, the job of the database, and what a clock told.
+/// The daemon without its clients: the half that is saved, the player, the job of the database with those that wait, and what a clock
+/// told.
 #[derive(Drop)]
 pub struct Machine {
     pub(crate) saved: Saved,
     pub(crate) player: Player,
     pub(crate) job: Job,
+    // The jobs that were asked for while it ran, in their order.
+    pub(crate) waiting: Vec<WaitingJob>,
     pub(crate) clock: ClockTime,
     // What `status` shows of the current song and the next one, until something of it changes.
     pub(crate) kept: KeptNext,
@@ -54,6 +57,7 @@ impl Machine {
             saved,
             player: Player::new(alloc),
             job: Job::none(),
+            waiting: Vec::new(alloc),
             clock: ClockTime::untold(),
             kept: KeptNext::new(),
         }

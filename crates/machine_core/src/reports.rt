@@ -3,6 +3,7 @@ ghost use Rattle.std.specs.Prelude.{◌≡◌, IfOk, OnErr};
 ghost use Rattle.player_core.specs.Order.{order_of};
 ghost use Rattle.machine_core.specs.Followed.{current_row};
 ghost use Rattle.machine_core.specs.Happening.{HasHappened};
+ghost use Rattle.machine_core.specs.Keeping.{kept_event};
 ghost use Rattle.machine_core.specs.Reports.{fed_in, when_fed, when_ended, when_broken};
 
 use crate::happened::Happened;
@@ -50,18 +51,20 @@ impl Machine {
 
     /// The output has played the last frame of the song that was started under this ticket. Without memory it leaves all as it was.
     pub fn ended(&mut self, alloc: Global, ticket: u64) -> Result<Happened, NoMemory>
-        ensures ok { IfOk result (HasHappened (when_ended ticket self.old) self.old self.new) }
+        ensures ok { IfOk result (HasHappened (kept_event self.old (when_ended ticket self.old)) self.old self.new) }
         ensures err { OnErr result (self.new ≡ self.old) }
     {
         let before = self.before();
-        let mut work = Work::new(alloc, self.saved.profile())?;
-        work.make_room()?;
+        let profile = self.saved.profile();
+        let mut work = Work::new(alloc, profile)?;
+        work.make_room(profile)?;
         if self
             .make_step(alloc, PlayerStep::Ended(ticket), &mut work)
             .is_err()
         {
             return Err(NoMemory);
         }
+        work.keep_place(self, profile, &before);
         let changed = self.changed_since(&before, &work.ops);
         Ok(Happened {
             ops: work.ops,
@@ -76,18 +79,20 @@ impl Machine {
         ticket: u64,
         cause: BrokenCause,
     ) -> Result<Happened, NoMemory>
-        ensures ok { IfOk result (HasHappened (when_broken ticket cause self.old) self.old self.new) }
+        ensures ok { IfOk result (HasHappened (kept_event self.old (when_broken ticket cause self.old)) self.old self.new) }
         ensures err { OnErr result (self.new ≡ self.old) }
     {
         let before = self.before();
-        let mut work = Work::new(alloc, self.saved.profile())?;
-        work.make_room()?;
+        let profile = self.saved.profile();
+        let mut work = Work::new(alloc, profile)?;
+        work.make_room(profile)?;
         if self
             .make_step(alloc, PlayerStep::Failed(ticket, cause), &mut work)
             .is_err()
         {
             return Err(NoMemory);
         }
+        work.keep_place(self, profile, &before);
         let changed = self.changed_since(&before, &work.ops);
         Ok(Happened {
             ops: work.ops,

@@ -8,16 +8,20 @@ ghost use Rattle.state_codec.specs.Changes.{AreChanges};
 ghost use Rattle.state_codec.specs.declared.op.Op.TheVariants.{Batch};
 ghost use Rattle.machine_core.specs.Followed.{current_row, cut_to, no_block, of_step, step_as_they_leave};
 ghost use Rattle.machine_core.specs.Happening.{HasHappened};
+ghost use Rattle.machine_core.specs.Keeping.{kept_event};
 ghost use Rattle.machine_core.specs.Meaning.{order_ops};
-ghost use Rattle.machine_core.specs.Scanning.{is_running, when_scanned, when_found, changes_rows};
+ghost use Rattle.machine_core.specs.Scanning.{after_job, is_running, when_scanned, when_found, changes_rows};
+ghost use Rattle.machine_core.specs.Work.{keep_count};
 
 mod rows;
 
 use crate::current::current_entry;
 use crate::edit::begin_order;
 use crate::happened::Happened;
+use crate::job::{Job, WaitingJob};
 use crate::machine::Machine;
 use crate::scanning::rows::telling;
+use crate::work::KEEP_COUNT;
 use idle_masks::Subsystems;
 use no_memory::NoMemory;
 use player_core::{Block, Player};
@@ -26,7 +30,8 @@ use state_codec::{Changes, Op, Saved, dropped_by, laws};
 use std::alloc::Global;
 
 impl Machine {
-    /// A scan is over: its job runs no more. Nothing happens where the job of this number doesn't run.
+    /// A scan is over: its job runs no more, and the one that waited longest begins. Nothing happens where the job of this number doesn't
+    /// run.
     pub fn scan_done(&mut self, alloc: Global, job: u32) -> Happened
         ensures { HasHappened (when_scanned job self.old) self.old self.new result }
     {
@@ -34,20 +39,39 @@ impl Machine {
             return nothing(alloc);
         }
         let before = self.before();
-        self.job.runs = false;
-        self.job.read = self.clock.now;
+        let has_changed_a_row = self.job.has_changed_a_row;
+        self.end_job();
         let mut changed = self.changed_since(&before, &[]);
-        changed.database = self.job.has_changed_a_row;
+        changed.update = true;
+        changed.database = has_changed_a_row;
         Happened {
             ops: Vec::new(alloc),
             changed,
         }
     }
 
+    // The job is over, and the one that waited longest begins, if one waits.
+    fn end_job(&mut self)
+        ensures { self.new ≡ after_job self.old }
+    {
+        if self.waiting.is_empty() {
+            self.job.runs = false;
+            self.job.read = self.clock.now;
+            return;
+        }
+        let WaitingJob {
+            number,
+            place,
+            opens_all,
+        } = self.waiting.remove(0);
+        self.job = Job::begun(number, place, opens_all, self.clock.now);
+    }
+
     /// A scan has read a batch. One op makes the changes of it that change a row at their turn, but for rows that the profile doesn't
     /// keep. Nothing happens where there are none, or where the job of this number doesn't run. Without memory the machine stays as it was.
     pub fn batch(&mut self, alloc: Global, job: u32, changes: Changes) -> Result<Happened, NoMemory>
-        ensures ok { IfOk result (λ happened. HasHappened (when_found job changes self.old) self.old self.new happened) }
+        ensures ok { IfOk result (λ happened. HasHappened (kept_event self.old
+            (when_found job changes self.old)) self.old self.new happened) }
         ensures err { OnErr result (self.new ≡ self.old) }
     {
         if !self.runs_job(job) {
@@ -71,13 +95,16 @@ impl Machine {
     // Makes changes, each of which changes a row at its turn, and tells what that did.
     fn change_rows(&mut self, alloc: Global, changes: Changes) -> Result<Happened, NoMemory>
         requires { refusal_of (Batch changes) self.old.saved ≡ None }
-        ensures ok { IfOk result (λ happened. HasHappened (changes_rows changes self.old) self.old self.new happened) }
+        ensures ok { IfOk result (λ happened. HasHappened (kept_event self.old
+            (changes_rows changes self.old)) self.old self.new happened) }
         ensures err { OnErr result (self.new ≡ self.old) }
     {
         laws::body_len();
+        let profile = self.saved.profile();
         let before = self.before();
         let stickers = self.saved.stickers().len();
-        let ops = self.make_batch(alloc, changes)?;
+        let mut ops = self.make_batch(alloc, changes)?;
+        let _ = self.keep_since(profile, &before, &mut ops);
         let mut changed = self.changed_since(&before, &ops);
         changed.sticker = stickers != self.saved.stickers().len();
         Ok(Happened { ops, changed })
@@ -87,11 +114,12 @@ impl Machine {
     fn make_batch(&mut self, alloc: Global, changes: Changes) -> Result<Vec<Op>, NoMemory>
         requires { refusal_of (Batch changes) self.old.saved ≡ None }
         ensures ops { IfOk result (λ ops. ops.items ≡ (changes_rows changes self.old).ops) }
+        ensures room { IfOk result (λ ops. vec_len ops + keep_count ≤ vec_capacity ops) }
         ensures machine { OnOk result (self.new ≡ (changes_rows changes self.old).after) }
         ensures form { OnOk result (AreChanges changes) }
         ensures err { OnErr result (self.new ≡ self.old) }
     {
-        let mut ops = Vec::with_capacity(alloc, 2)?;
+        let mut ops = Vec::with_capacity(alloc, 2 + KEEP_COUNT)?;
         let (mut player, order) = self.follow_batch(alloc, changes.as_slice())?;
         let op = Op::Batch(changes);
         if self.apply(alloc, &op).is_err() {
@@ -127,7 +155,7 @@ impl Machine {
 }
 
 // What an event does that changes nothing.
-fn nothing(alloc: Global) -> Happened
+pub(crate) fn nothing(alloc: Global) -> Happened
     ensures ops { result.ops.items ≡ [] }
     ensures changed { result.changed ≡ none }
 {
@@ -140,7 +168,9 @@ fn nothing(alloc: Global) -> Happened
 // The op of a batch, behind the new random order that begins before it, if one does.
 fn push_ops(ops: &mut Vec<Op>, order: Option<u64>, op: Op)
     requires { vec_len ops.old + 2 ≤ vec_capacity ops.old }
-    ensures { ops.new.items ≡ ops.old.items ++ (order_ops order ++ op ∷ []) }
+    ensures ops { ops.new.items ≡ ops.old.items ++ (order_ops order ++ op ∷ []) }
+    ensures room { vec_capacity ops.new ≡ vec_capacity ops.old }
+    ensures more { vec_len ops.new ≤ vec_len ops.old + 2 }
 {
     if let Some(order) = order {
         ops.push_reserved(Op::SetOrder(order));

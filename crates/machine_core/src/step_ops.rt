@@ -7,7 +7,7 @@ ghost use Rattle.state_codec.specs.Applied.{after_all};
 ghost use Rattle.state_codec.specs.Spelling.{ops_bytes};
 ghost use Rattle.machine_core.specs.Meaning.{order_ops};
 ghost use Rattle.machine_core.specs.Steps.{step_ops, removal_ops, single_ops, consume_ops, IsInQueue};
-ghost use Rattle.machine_core.specs.Work.{Admits, AddsOps};
+ghost use Rattle.machine_core.specs.Work.{Admits, AddsOps, CanKeep};
 
 use crate::edit::begin_order;
 use crate::work::Work;
@@ -106,6 +106,7 @@ impl Work {
         requires { let ops = consume_ops off in Admits (length ops) (length (ops_bytes profile ops)) self.old }
         ensures ops { let ops = consume_ops off in AddsOps ops (length (ops_bytes profile ops)) self.old self.new }
         ensures text { self.new.text ≡ self.old.text }
+        ensures room { vec_capacity self.new.ops ≡ vec_capacity self.old.ops }
     {
         if off {
             self.push(profile, Op::SetOption(Setting::Consume(Single::Off)));
@@ -118,6 +119,7 @@ impl Work {
         requires within { ForSome changes.removed (λ at. at ≤ MAX_ENTRIES) }
         ensures ops { AddsOps (step_ops changes) (length (ops_bytes profile (step_ops changes))) self.old self.new }
         ensures text { self.new.text ≡ self.old.text }
+        ensures keeps { CanKeep self.new }
     {
         self.push_order(profile, changes.order);
         self.push_removal(profile, changes.removed);

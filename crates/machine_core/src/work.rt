@@ -1,5 +1,7 @@
 // What a request makes while its commands are performed: the bytes of its answers and its ops, within their limits.
-ghost use Rattle.std.specs.Prelude.{◌≤◌};
+ghost use Rattle.std.specs.Prelude.{◌≡◌, ◌+◌, ◌<◌, ◌≤◌, length, None, IfSome};
+ghost use Rattle.state_codec.specs.Spelling.{ops_bytes};
+ghost use Rattle.machine_core.specs.Size.{max_request_bytes, room_by};
 
 use command_text::{CommandRefusal, Refusal, want_of_memory, write_ack, write_list_ok, write_ok};
 use no_memory::NoMemory;
@@ -12,6 +14,12 @@ pub const MAX_REQUEST_BYTES: usize = 2_097_152;
 
 /// No client gets an answer of more bytes: whatever makes it longer is the last that is done of its request.
 pub(crate) const LONGEST_ANSWER: usize = 8_388_608;
+
+/// What is kept of the player behind one command takes at most so many bytes ..
+pub(crate) const LONGEST_KEEP: usize = 24;
+
+/// .. and so many ops.
+pub(crate) const KEEP_COUNT: usize = 3;
 
 /// Room for `list_OK` and the longest `ACK` line of want of memory behind it.
 const COMMAND_ROOM: usize = 72;
@@ -76,15 +84,46 @@ impl<T: Drop> From<AllocFailed<T>> for Failure {
     }
 }
 
+// How many bytes are kept free behind a command.
+fn room_by(profile: Profile) -> usize
+    ensures { result ≡ room_by profile }
+{
+    match profile {
+        Profile::Named => 0,
+        Profile::Wide => LONGEST_KEEP,
+    }
+}
+
+// The size of a record of this size with these ops, unless it has too many bytes.
+fn size_with(size: usize, profile: Profile, ops: &[Op]) -> Option<usize>
+    requires { size ≤ max_request_bytes }
+    ensures some { IfSome result (λ all. all ≡ size + length (ops_bytes profile ops.now)) }
+    ensures within { IfSome result (λ all. all ≤ max_request_bytes) }
+    ensures none { result ≡ None → max_request_bytes < size + length (ops_bytes profile ops.now) }
+{
+    let mut all = size;
+    for op in ops {
+        let bytes = op.spelled_len(profile);
+        if bytes > MAX_REQUEST_BYTES - all {
+            return None;
+        }
+        all += bytes;
+    }
+    Some(all)
+}
+
 impl Work {
-    ghost use Rattle.std.specs.Prelude.{◌≡◌, ◌+◌, ◌∷◌, ◌++◌, [], length, vec_len, vec_capacity, IfOk, OnOk, IfErr, MatchBool};
+    ghost use Rattle.std.specs.Prelude.{◌≡◌, ◌+◌, ◌-◌, ◌<◌, ◌≤◌, ◌∷◌, ◌++◌, [], length, vec_len, vec_capacity, IfOk, OnOk, OnErr, IfErr};
+    ghost use Rattle.std.specs.Prelude.{MatchBool};
     ghost use Rattle.command_text.specs.Answer.{ack, list_ok, ok};
     ghost use Rattle.command_text.specs.Reading.{name_of_line, want_of_memory};
     ghost use Rattle.state_codec.specs.Sealed.{checksum_len};
     ghost use Rattle.state_codec.specs.Spelling.{ops_bytes};
     ghost use Rattle.state_codec.specs.SpellingOps.{op_bytes};
     ghost use Rattle.machine_core.specs.Meaning.{order_ops};
-    ghost use Rattle.machine_core.specs.Work.{HasRoom, Admits, AddsOps, AddsNothing, AddsText, IsTooMuch, Keeps, ack_room, command_room};
+    ghost use Rattle.machine_core.specs.Size.{max_request_bytes, room_by};
+    ghost use Rattle.machine_core.specs.Work.{HasRoom, Admits, AddsOps, AddsNothing, AddsText, CanKeep, CanKeepBy, IsTooMuch, Keeps};
+    ghost use Rattle.machine_core.specs.Work.{ack_room, command_room, keep_count};
 
     /// Nothing is made yet. There is room for what ends the first command.
     pub fn new(alloc: Global, profile: Profile) -> Result<Self, AllocError>
@@ -100,20 +139,53 @@ impl Work {
         })
     }
 
-    /// Takes the room that a command needs from the start. Behind an answer that is longer than any that is sent there is none.
-    pub fn make_room(&mut self) -> Result<(), NoMemory>
+    /// Takes the room that a command needs from the start, also for what is kept of the player behind it. Behind an answer that is
+    /// longer than any that is sent there is none.
+    pub fn make_room(&mut self, profile: Profile) -> Result<(), NoMemory>
         ensures ok { OnOk result (HasRoom command_room self.new) }
+        ensures keeps { OnOk result (CanKeepBy profile self.new) }
         ensures nothing { AddsNothing self.old self.new }
     {
         if self.text.len() > LONGEST_ANSWER {
             return Err(NoMemory);
         }
+        if let Profile::Wide = profile {
+            self.ops.reserve(KEEP_COUNT)?;
+        }
         self.text.reserve(COMMAND_ROOM)?;
         Ok(())
     }
 
-    // Takes the room for so many ops of so many bytes together, where the request may make them.
+    // Takes the bytes for what is kept behind a command, so that the command's own ops leave them free.
+    pub(crate) fn set_aside(&mut self, profile: Profile) -> Result<(), Failure>
+        ensures ok { OnOk result (self.new.size ≡ self.old.size + room_by profile) }
+        ensures err { OnErr result (self.new ≡ self.old) }
+        ensures text { self.new.text ≡ self.old.text }
+        ensures ops { self.new.ops ≡ self.old.ops }
+        ensures refused { IfErr result (λ failure. (failure ≡ Failure.Refused CommandRefusal.RequestTooLarge)
+            × (max_request_bytes < self.old.size + room_by profile)) }
+    {
+        let room = room_by(profile);
+        if room > MAX_REQUEST_BYTES - self.size {
+            return Err(Failure::Refused(CommandRefusal::RequestTooLarge));
+        }
+        self.size += room;
+        Ok(())
+    }
+
+    // Gives them back.
+    pub(crate) fn give_back(&mut self, profile: Profile)
+        requires { room_by profile ≤ self.old.size }
+        ensures size { self.new.size ≡ self.old.size - room_by profile }
+        ensures text { self.new.text ≡ self.old.text }
+        ensures ops { self.new.ops ≡ self.old.ops }
+    {
+        self.size -= room_by(profile);
+    }
+
+    // Takes the room for so many ops of so many bytes together, where the request may make them, and for what is kept behind them.
     pub(crate) fn admit(&mut self, count: usize, bytes: usize) -> Result<(), Failure>
+        requires { count ≤ 4 }
         ensures ok { OnOk result (Admits count bytes self.new) }
         ensures nothing { AddsNothing self.old self.new }
         ensures same { self.new.text ≡ self.old.text }
@@ -122,7 +194,7 @@ impl Work {
         if bytes > MAX_REQUEST_BYTES - self.size {
             return Err(Failure::Refused(CommandRefusal::RequestTooLarge));
         }
-        self.ops.reserve(count)?;
+        self.ops.reserve(count + KEEP_COUNT)?;
         Ok(())
     }
 
@@ -170,6 +242,7 @@ impl Work {
         requires room { let ops = order_ops order ++ op ∷ [] in Admits (length ops) bytes self.old }
         ensures ops { AddsOps (order_ops order ++ op ∷ []) bytes self.old self.new }
         ensures text { self.new.text ≡ self.old.text }
+        ensures keeps { CanKeep self.new }
     {
         self.size += bytes;
         if let Some(order) = order {
@@ -202,9 +275,43 @@ impl Work {
         requires { let ops = first ∷ second ∷ [] in Admits (length ops) (length (ops_bytes profile ops)) self.old }
         ensures ops { let ops = first ∷ second ∷ [] in AddsOps ops (length (ops_bytes profile ops)) self.old self.new }
         ensures text { self.new.text ≡ self.old.text }
+        ensures keeps { CanKeep self.new }
     {
         self.push(profile, first);
         self.push(profile, second);
+    }
+
+    // Takes the room for these ops, where the request may make them all, and for what is kept behind them. It answers the size of a
+    // record with them.
+    pub(crate) fn admit_all(&mut self, profile: Profile, ops: &[Op]) -> Result<usize, Failure>
+        ensures size { IfOk result (λ size. size ≡ self.old.size + length (ops_bytes profile ops.now)) }
+        ensures ok { OnOk result (Admits (length ops.now) (length (ops_bytes profile ops.now)) self.new) }
+        ensures nothing { AddsNothing self.old self.new }
+        ensures same { self.new.text ≡ self.old.text }
+        ensures refused { IfErr result (IsTooMuch (self.old.size + length (ops_bytes profile ops.now))) }
+    {
+        let Some(size) = size_with(self.size, profile, ops) else {
+            return Err(Failure::Refused(CommandRefusal::RequestTooLarge));
+        };
+        self.ops.reserve(ops.len().saturating_add(KEEP_COUNT))?;
+        Ok(size)
+    }
+
+    // Adds ops for which there is room, and with which a record has this size.
+    pub(crate) fn push_all(&mut self, ops: Vec<Op>, size: usize)
+        requires room { vec_len self.old.ops + (length ops.items + keep_count) ≤ vec_capacity self.old.ops }
+        requires fits { size ≤ max_request_bytes }
+        ensures ops { self.new.ops.items ≡ self.old.ops.items ++ ops.items }
+        ensures size { self.new.size ≡ size }
+        ensures text { self.new.text ≡ self.old.text }
+        ensures keeps { CanKeep self.new }
+    {
+        let mut ops = ops;
+        self.size = size;
+        match self.ops.append(&mut ops) {
+            Ok(()) => {}
+            Err(_) => unreachable!(),
+        }
     }
 
     /// Keeps the text that was written from this place on, with room for what ends a command, or cuts it off.

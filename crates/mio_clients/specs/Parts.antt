@@ -1,5 +1,6 @@
 -- What the parts of a turn of the loop carry.
-use Rattle.std.specs.Prelude.{◌≡◌, ◌≢◌, ◌⊎◌, ℕ, ◌+◌, ◌*◌, ◌≤◌, ◌==◌, min, sum_by, List, [], ◌∷◌, ◌++◌, Bool, true, false, Option, None, Some, if◌then◌else◌}
+use Rattle.std.specs.Prelude.{◌≡◌, ◌≢◌, ◌⊎◌, ℕ, ◌+◌, ◌*◌, ◌≤◌, ◌==◌, min, sum_by, List, [], ◌∷◌, ◌++◌, Bool, true, false, Option, None}
+use Rattle.std.specs.Prelude.{Some, if◌then◌else◌}
 use Rattle.command_text.specs.declared.request.Request.{Request}
 use Rattle.daemon_core.specs.declared.event.Event.{Event}
 use Rattle.daemon_core.specs.declared.event.Event.TheVariants as stage_events
@@ -64,6 +65,8 @@ asked_of c (stage_events.Broken ticket cause) = []
 asked_of c (stage_events.Batch job changes) = []
 asked_of c (stage_events.ScanDone job) = []
 asked_of c (stage_events.Clock time) = []
+asked_of c (stage_events.Keep ticket) = []
+asked_of c (stage_events.Resume plays) = []
 
 -- a clock's event
 abbrev pub is_of_clock : Event → Bool

@@ -1,18 +1,20 @@
 -- What an event does to the job of the database.
-use Rattle.std.proofs.Common.{◌≡◌, ℕ, Bool, true, false, List, [], ◌∷◌, Option, Some, None, if◌then◌else◌, refl, ◌∙◌, ap}
+use Rattle.std.proofs.Common.{◌≡◌, ℕ, suc, ◌<◌, Bool, true, false, List, [], ◌∷◌, length, drop, Option, Some, None, if◌then◌else◌}
+use Rattle.std.proofs.Common.{refl, ◌∙◌, ap, arith}
 use Rattle.std.proofs.lemmas.Bool.{eq-eqb}
 use Rattle.idle_masks.specs.Watched.{watched}
 use Rattle.idle_masks.specs.declared.watch.Watched.{Watched}
 use Rattle.song_db.specs.declared.change.RowChange.{RowChange}
 use Rattle.machine_core.specs.Happening.{Happening, nothing_happens}
-use Rattle.machine_core.specs.Scanning.{is_running, kept_changes, telling, finds, when_found, when_scanned}
+use Rattle.machine_core.specs.Scanning.{after_job, ends_scan, is_running, job_behind, kept_changes, telling, finds, when_found, when_scanned}
 use Rattle.machine_core.specs.State.{MachineState}
 use Rattle.machine_core.specs.declared.clock.ClockTime.{ClockTime}
+use Rattle.machine_core.specs.declared.job.WaitingJob.{WaitingJob}
 use Rattle.daemon_core.specs.declared.event.Event.TheVariants as events
 use Rattle.daemon_core.specs.Session.{Acted}
 use Rattle.daemon_core.specs.State.{State}
 use Rattle.daemon_core.specs.Step.{connects_client, step}
-use Rattle.mpd_program.specs.Console.{IsRunning, RunsNone}
+use Rattle.mpd_program.specs.Console.{IsRunning, RunsNone, jobs_left}
 use Rattle.mpd_program.specs.Serving.{StepsTo}
 
 -- a client that connects leaves the machine
@@ -43,6 +45,26 @@ batch_leaves n changes m is =
     by_running true = finds_leaves n (telling m.saved.songs (kept_changes m.saved.profile changes)) m is
     by_running false = is
 
+-- and which wait
+finds_waits : (changes : List RowChange) (m : MachineState) → (let h : Happening = finds changes m in h.after.waiting ≡ m.waiting)
+finds_waits [] m = refl
+finds_waits (change ∷ changes) m = refl
+
+batch_leaves_waiting : (n : ℕ) (changes : List RowChange) (m : MachineState)
+    → (let h : Happening = when_found n changes m in h.after.waiting ≡ m.waiting)
+batch_leaves_waiting n changes m = by_running (is_running n m)
+  where
+    by_running : (runs : Bool)
+        → (let h : Happening = if runs then finds (telling m.saved.songs (kept_changes m.saved.profile changes)) m else nothing_happens m in
+        h.after.waiting ≡ m.waiting)
+    by_running true = finds_waits (telling m.saved.songs (kept_changes m.saved.profile changes)) m
+    by_running false = refl
+
+pub batch_waits : (n : ℕ) (changes : List RowChange) (s t : State) → StepsTo (events.Batch n changes) s t
+    → t.machine.waiting ≡ s.machine.waiting
+unfolding step
+batch_waits n changes s t h = ap (λ (v : State). v.machine.waiting) h.state ∙ batch_leaves_waiting n changes s.machine
+
 pub batch_runs : (n : ℕ) (changes : List RowChange) (s t : State) → StepsTo (events.Batch n changes) s t → IsRunning n s.machine.job
     → IsRunning n t.machine.job
 unfolding step
@@ -53,13 +75,31 @@ batch_runs n changes s t h is =
       runs = ap (λ (v : State). v.machine.job.runs) h.state ∙ left.runs;
     }
 
--- the end of its scan ends it
-end_stops : (n : ℕ) (m : MachineState) → IsRunning n m.job → (let h : Happening = when_scanned n m in RunsNone h.after.job)
-end_stops n m is = rw (is.runs, eq-eqb m.job.number n is.same) refl
+-- the end of its scan ends it: one job less is left
+end_leaves : (n : ℕ) (m : MachineState) → IsRunning n m.job → when_scanned n m ≡ ends_scan m
+end_leaves n m is = rw (is.runs, eq-eqb m.job.number n is.same) refl
 
-pub end_idles : (n : ℕ) (s t : State) → StepsTo (events.ScanDone n) s t → IsRunning n s.machine.job → RunsNone t.machine.job
+behind_fewer : (m : MachineState) → jobs_left (after_job m) ≡ length m.waiting
+behind_fewer m = of m.waiting
+  where
+    of : (waiting : List WaitingJob) → (if (job_behind waiting m.clock.now m.job).runs then suc (length (drop 1 waiting)) else 0) ≡ length waiting
+    of [] = refl
+    of (next ∷ waiting) = refl
+
+-- while one job runs, and as many wait, as many are left
+pub left_is : (n k : ℕ) (m o : MachineState) → IsRunning n m.job → IsRunning k o.job → m.waiting ≡ o.waiting → jobs_left m ≡ jobs_left o
+left_is n k m o is was same = rw (is.runs, was.runs) (ap (λ (l : List WaitingJob). suc (length l)) same)
+
+pub end_fewer : (n : ℕ) (s t : State) → StepsTo (events.ScanDone n) s t → IsRunning n s.machine.job
+    → jobs_left t.machine < jobs_left s.machine
 unfolding step
-end_idles n s t h is = ap (λ (v : State). v.machine.job.runs) h.state ∙ end_stops n s.machine is
+end_fewer n s t h is =
+    let after : jobs_left t.machine ≡ length s.machine.waiting =
+    ap (λ (v : State). jobs_left v.machine) h.state
+    ∙ ap (λ (x : Happening). jobs_left x.after) (end_leaves n s.machine is) ∙ behind_fewer s.machine in
+    let before : jobs_left s.machine ≡ suc (length s.machine.waiting) =
+    ap (λ (runs : Bool). if runs then suc (length s.machine.waiting) else 0) is.runs in
+    omega (arith, after, before)
 
 -- a clock's event is nothing to it
 pub clock_idles : (time : ClockTime) (s t : State) → StepsTo (events.Clock time) s t → RunsNone s.machine.job → RunsNone t.machine.job

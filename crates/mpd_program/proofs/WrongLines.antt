@@ -2,7 +2,7 @@
 use Rattle.std.proofs.Common.{◌≡◌, ◌⊎◌, inl, inr, Bool, true, false, Option, Some, None, codes, is_none, if◌then◌else◌, refl}
 use Rattle.std.specs.Str.{bytes_eq}
 use Rattle.toml.specs.Data.{Members}
-use Rattle.mpd_program.specs.Configuration.{Settings, ◌>>=◌, all_known, text_at, key_at, optional_text_at, optional_path_at, form_at, formats_at, switch_at, settings_in, settings_of, is_wrong, names_one_file, IsTold}
+use Rattle.mpd_program.specs.Configuration.{Settings, ◌>>=◌, all_known, text_at, key_at, optional_text_at, optional_path_at, form_at, formats_at, resume_at, seconds_at, switch_at, settings_in, settings_of, is_wrong, names_one_file, IsTold}
 use Rattle.mpd_program.specs.declared.config_key.ConfigKey.{ConfigKey}
 use Rattle.mpd_program.specs.declared.config_key.ConfigKey.TheVariants as keys
 
@@ -35,8 +35,10 @@ keys_told table h =
     first_or_next (formats_at (codes "formats") table) h (at_key table keys.Formats) (λ formats formats_is h.
     first_or_next (optional_path_at (codes "decoder") table) h (at_key table keys.Decoder) (λ decoder decoder_is h.
     first_or_next (switch_at (codes "stock_clients") table) h (at_key table keys.StockClients) (λ stock_clients stock_clients_is h.
+    first_or_next (resume_at (codes "resume") table) h (at_key table keys.Resume) (λ resume resume_is h.
+    first_or_next (seconds_at (codes "place_every") table) h (at_key table keys.PlaceEvery) (λ place_every place_every_is h.
     first_or_next (switch_at (codes "debug") table) h (at_key table keys.Debug) (λ debug debug_is h.
-    inr (inr (rw (a_is, b_is) (one_file (bytes_eq a b) (record { music = music; journal_a = a; journal_b = b; key = key; tcp = tcp; unix = unix; output = output; form = form; formats = formats; decoder = decoder; stock_clients = stock_clients; debug = debug }) h)))))))))))))))
+    inr (inr (rw (a_is, b_is) (one_file (bytes_eq a b) (record { music = music; journal_a = a; journal_b = b; key = key; tcp = tcp; unix = unix; output = output; form = form; formats = formats; decoder = decoder; stock_clients = stock_clients; resume = resume; place_every = place_every; debug = debug }) h)))))))))))))))))
 
 pub is_told : (table : Members) → settings_of table ≡ None → IsTold table
 is_told table = by_known (all_known table) refl

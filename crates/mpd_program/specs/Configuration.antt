@@ -1,9 +1,11 @@
--- What a configuration says: a TOML table of texts, two switches and a list of formats.
-use Rattle.std.specs.Prelude.{◌≡◌, ◌⊎◌, is_none, ℕ, List, [], ◌∷◌, codes, Bool, true, false, ◌&&◌, ◌||◌, not, Option, Some, None, option_map, is_some, if◌then◌else◌, ◌+◌, ◌==◌, nat_le, suc}
+-- What a configuration says: a TOML table of texts, two switches, a number and a list of formats.
+use Rattle.std.specs.Prelude.{◌≡◌, ◌⊎◌, is_none, ℕ, List, [], ◌∷◌, codes, Bool, true, false, ◌&&◌, ◌||◌, not, Option, Some, None}
+use Rattle.std.specs.Prelude.{option_map, is_some, if◌then◌else◌, ◌+◌, ◌==◌, nat_le, suc, ℤ, pos, negsuc}
 use Rattle.std.specs.Option.{option_and_then}
 use Rattle.std.specs.Result.{result_ok}
 use Rattle.std.specs.Str.{bytes_eq}
 use Rattle.toml.specs.Data.{Data, string, Items, no_items, item, Members, no_members, member, get_member, as_array, as_str, as_bool}
+use Rattle.toml.specs.Data.{as_integer}
 use Rattle.toml.specs.Parse.{parse_document}
 use Rattle.hex.specs.Hex.{decode_sized}
 use Rattle.as_wave.specs.declared.forms.Forms.{Forms}
@@ -21,7 +23,8 @@ abbrev pub ◌>>=◌ : {A B : Type 0} → Option A → (A → Option B) → Opti
 None >>= f = None
 
 -- The paths as they stand, the key of 32 bytes, where to listen and to play, where these are said, the form of the sound, which files are
--- songs, what reads others, whether the clients of MPD are served, and whether the log says more.
+-- songs, what reads others, whether the clients of MPD are served, how the player goes on at the beginning of a life, every how many
+-- seconds its place is kept, and whether the log says more.
 pub record Settings : Type 0 where
   pub music : List ℕ
   pub journal_a : List ℕ
@@ -34,6 +37,8 @@ pub record Settings : Type 0 where
   pub formats : Forms
   pub decoder : Option (List ℕ)
   pub stock_clients : Bool
+  pub resume : Option Bool
+  pub place_every : ℕ
   pub debug : Bool
 
 -- what the daemon knows of MPD, by the switch `stock_clients`
@@ -46,7 +51,8 @@ is_known key =
     bytes_eq key (codes "music") || bytes_eq key (codes "journal_a") || bytes_eq key (codes "journal_b") || bytes_eq key (codes "key")
     || bytes_eq key (codes "tcp") || bytes_eq key (codes "unix") || bytes_eq key (codes "output")
     || bytes_eq key (codes "form") || bytes_eq key (codes "formats") || bytes_eq key (codes "decoder")
-    || bytes_eq key (codes "stock_clients") || bytes_eq key (codes "debug")
+    || bytes_eq key (codes "stock_clients") || bytes_eq key (codes "resume") || bytes_eq key (codes "place_every")
+    || bytes_eq key (codes "debug")
 
 -- it has no key but these
 abbrev pub all_known : Members → Bool
@@ -135,6 +141,34 @@ switch_if_there (Some value) = as_bool value
 abbrev pub switch_at : List ℕ → Members → Option Bool
 switch_at key members = switch_if_there (get_member key members)
 
+-- whether a song that played plays on
+abbrev pub resume_of : List ℕ → Option Bool
+resume_of text =
+    if bytes_eq text (codes "paused") then Some false
+    else if bytes_eq text (codes "playing") then Some true
+    else None
+
+-- how the player goes on, which may be there: not at all where it is not
+abbrev pub resume_if_there : Option Data → Option (Option Bool)
+resume_if_there None = Some None
+resume_if_there (Some value) = option_map Some (option_and_then resume_of (as_str value))
+
+abbrev pub resume_at : List ℕ → Members → Option (Option Bool)
+resume_at key members = resume_if_there (get_member key members)
+
+-- a number of seconds, up to an hour
+abbrev pub seconds_of : ℤ → Option ℕ
+seconds_of (pos n) = if nat_le n 3600 then Some n else None
+seconds_of (negsuc n) = None
+
+-- the seconds that may be there: 30 where they are not
+abbrev pub seconds_if_there : Option Data → Option ℕ
+seconds_if_there None = Some 30
+seconds_if_there (Some value) = option_and_then seconds_of (as_integer value)
+
+abbrev pub seconds_at : List ℕ → Members → Option ℕ
+seconds_at key members = seconds_if_there (get_member key members)
+
 -- the bytes that 64 hexadecimal digits stand for, in either case
 abbrev pub key_of : List ℕ → Option (List ℕ)
 key_of text = result_ok (decode_sized text 32)
@@ -155,6 +189,8 @@ name_of keys.Form = codes "form"
 name_of keys.Formats = codes "formats"
 name_of keys.Decoder = codes "decoder"
 name_of keys.StockClients = codes "stock_clients"
+name_of keys.Resume = codes "resume"
+name_of keys.PlaceEvery = codes "place_every"
 name_of keys.Debug = codes "debug"
 
 -- what stands at a key, or that nothing does, isn't what is wanted there
@@ -170,6 +206,8 @@ is_wrong keys.Form members = is_none (form_at (codes "form") members)
 is_wrong keys.Formats members = is_none (formats_at (codes "formats") members)
 is_wrong keys.Decoder members = is_none (optional_path_at (codes "decoder") members)
 is_wrong keys.StockClients members = is_none (switch_at (codes "stock_clients") members)
+is_wrong keys.Resume members = is_none (resume_at (codes "resume") members)
+is_wrong keys.PlaceEvery members = is_none (seconds_at (codes "place_every") members)
 is_wrong keys.Debug members = is_none (switch_at (codes "debug") members)
 
 -- both files of the journal have one name
@@ -208,6 +246,8 @@ settings_in members = do
   formats ← formats_at (codes "formats") members
   decoder ← optional_path_at (codes "decoder") members
   stock_clients ← switch_at (codes "stock_clients") members
+  resume ← resume_at (codes "resume") members
+  place_every ← seconds_at (codes "place_every") members
   debug ← switch_at (codes "debug") members
   if_two_files (record {
     music = music;
@@ -221,6 +261,8 @@ settings_in members = do
     formats = formats;
     decoder = decoder;
     stock_clients = stock_clients;
+    resume = resume;
+    place_every = place_every;
     debug = debug;
   })
 
@@ -246,6 +288,8 @@ pub record ServeSettings : Type 0 where
   pub formats : Forms
   pub decoder : Option (List ℕ)
   pub stock_clients : Bool
+  pub resume : Option Bool
+  pub place_every : ℕ
   pub debug : Bool
 
 -- it says where to listen
@@ -271,6 +315,8 @@ settings_to_serve s output =
       formats = s.formats;
       decoder = s.decoder;
       stock_clients = s.stock_clients;
+      resume = s.resume;
+      place_every = s.place_every;
       debug = s.debug;
     })
     else None

@@ -1,11 +1,12 @@
 -- What a console's client is given, along one history.
-use Rattle.std.specs.Prelude.{◌≡◌, ◌≢◌, ℕ, ◌==◌, List, [], ◌∷◌, ◌++◌, map, true, false, if◌then◌else◌}
+use Rattle.std.specs.Prelude.{◌≡◌, ◌≢◌, ℕ, suc, length, ◌==◌, List, [], ◌∷◌, ◌++◌, map, true, false, if◌then◌else◌}
 use Rattle.command_text.specs.declared.request.Request.{Request}
 use Rattle.state_codec.specs.SavedState.{SavedState}
 use Rattle.daemon_core.specs.declared.event.Event.{Event}
 use Rattle.daemon_core.specs.declared.event.Event.TheVariants as events
 use Rattle.daemon_core.specs.declared.outcome.Output.{Output}
 use Rattle.daemon_core.specs.Replay.{Entry, stepped, replay, reply}
+use Rattle.machine_core.specs.State.{MachineState}
 use Rattle.machine_core.specs.declared.job.Job.{Job}
 
 -- the bytes of these outputs that are for this client
@@ -37,6 +38,8 @@ asked (events.Broken ticket cause) = events.Broken ticket cause ∷ []
 asked (events.Batch number changes) = []
 asked (events.ScanDone number) = []
 asked (events.Clock time) = []
+asked (events.Keep ticket) = []
+asked (events.Resume plays) = []
 
 -- what the client asked for in a history, the oldest first
 abbrev pub asked_in : List Entry → List Event
@@ -52,7 +55,11 @@ pub record IsRunning (number : ℕ) (job : Job) : Type 0 where
 abbrev pub RunsNone : Job → Type 0
 RunsNone job = job.runs ≡ false
 
--- A request may be followed by the events of the job that it started: these come while that job runs. A client connects, and makes
+-- how many jobs run or wait behind the one that runs
+abbrev pub jobs_left : MachineState → ℕ
+jobs_left m = if m.job.runs then suc (length m.waiting) else 0
+
+-- A request may be followed by the events of the jobs that it started: these come while that job runs. A client connects, and makes
 -- its next request, while none runs.
 abbrev pub ComesInTurn : Job → Event → Type 0
 ComesInTurn job (events.Connect c) = RunsNone job
@@ -64,6 +71,8 @@ ComesInTurn job (events.Broken ticket cause) = Unit {0}
 ComesInTurn job (events.Batch number changes) = IsRunning number job
 ComesInTurn job (events.ScanDone number) = IsRunning number job
 ComesInTurn job (events.Clock time) = Unit {0}
+ComesInTurn job (events.Keep ticket) = Unit {0}
+ComesInTurn job (events.Resume plays) = Unit {0}
 
 -- each event of a job came while that job ran, and each request while none did
 abbrev pub JobsInTurn : SavedState → List Entry → Type 0

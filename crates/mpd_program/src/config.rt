@@ -1,12 +1,14 @@
-//! The configuration: a TOML document of texts, two switches and a list of formats.
+//! The configuration: a TOML document of texts, two switches, a number and a list of formats.
 ghost use Rattle.std.specs.Prelude.{◌≡◌, ◌≤◌, ℕ, None, Some, IfOk, OnErr, IsErrOf, IsTrue, ◌↔◌, true, option_map, string_bytes};
 ghost use Rattle.std.specs.Prelude.{count_by, is_none, length};
 ghost use Rattle.std.specs.Option.{option_and_then};
 ghost use Rattle.toml.specs.Data.{Members, get_member};
 ghost use Rattle.toml.specs.View.{items_view, table_view, view};
-ghost use Rattle.mpd_program.specs.Configuration.{is_known, is_wrong, names_one_file, all_known, settings_of, text_at, optional_text_at, optional_path_at, key_at};
+ghost use Rattle.mpd_program.specs.Configuration.{is_known, is_wrong, names_one_file, all_known, settings_of, text_at, optional_text_at};
+ghost use Rattle.mpd_program.specs.Configuration.{optional_path_at, key_at};
 ghost use Rattle.mpd_program.specs.Configuration.{configuration, profile_by, IsTold};
-ghost use Rattle.mpd_program.specs.Configuration.{form_at, form_of, formats_at, formats_in, is_text, switch_at};
+ghost use Rattle.mpd_program.specs.Configuration.{form_at, form_of, formats_at, formats_in, is_text, resume_at, resume_of, seconds_at};
+ghost use Rattle.mpd_program.specs.Configuration.{seconds_of, switch_at};
 ghost use Rattle.mpd_program.specs.declared.config.ConfigError.TheVariants as errors;
 
 use crate::config_key::ConfigKey;
@@ -63,6 +65,11 @@ pub struct Config {
     pub decoder: Option<String>,
     /// Whether the daemon knows more of MPD than the named subset: what stock clients ask for: not where the text doesn't say.
     pub stock_clients: bool,
+    /// How the player goes on at the beginning of a life: not at all where the text doesn't say, else a song that played plays on or is
+    /// paused.
+    pub resume: Option<bool>,
+    /// Every how many seconds of play its place is kept: 30 where the text doesn't say, never where it is 0.
+    pub place_every: u32,
     /// Whether the log has a line for each file that a job left out: not where the text doesn't say.
     pub debug: bool,
 }
@@ -85,6 +92,8 @@ impl Model for Config {
       formats = c.formats;
       decoder = option_map string_bytes c.decoder;
       stock_clients = c.stock_clients;
+      resume = c.resume;
+      place_every = c.place_every;
       debug = c.debug;
     } };
 }
@@ -130,6 +139,8 @@ impl Config {
         let formats = formats(table, "formats")?;
         let decoder = optional_path(alloc, table, "decoder")?;
         let stock_clients = switch(table, "stock_clients")?;
+        let resume = resume(table, "resume")?;
+        let place_every = seconds(table, "place_every")?;
         let debug = switch(table, "debug")?;
         if journal_a.as_str() == journal_b.as_str() {
             return Err(ConfigError::Bad);
@@ -146,6 +157,8 @@ impl Config {
             formats,
             decoder,
             stock_clients,
+            resume,
+            place_every,
             debug,
         })
     }
@@ -177,6 +190,8 @@ pub(crate) fn is_known_key(key: &str) -> bool
         || key == "formats"
         || key == "decoder"
         || key == "stock_clients"
+        || key == "resume"
+        || key == "place_every"
         || key == "debug"
 }
 
@@ -196,6 +211,8 @@ pub(crate) fn is_wrong(table: &Table, at: ConfigKey) -> bool
         ConfigKey::Formats => formats(table, "formats").is_err(),
         ConfigKey::Decoder => is_no_path(table, "decoder"),
         ConfigKey::StockClients => switch(table, "stock_clients").is_err(),
+        ConfigKey::Resume => resume(table, "resume").is_err(),
+        ConfigKey::PlaceEvery => seconds(table, "place_every").is_err(),
         ConfigKey::Debug => switch(table, "debug").is_err(),
     }
 }
@@ -392,6 +409,70 @@ fn switch(table: &Table, key: &str) -> Result<bool, ConfigError>
     };
     match value.as_bool() {
         Some(on) => Ok(on),
+        None => Err(ConfigError::Bad),
+    }
+}
+
+// Whether a song that played plays on, by this text.
+fn resume_named(text: &str) -> Option<bool>
+    ensures { result ≡ resume_of text.now }
+{
+    if text == "paused" {
+        return Some(false);
+    }
+    if text == "playing" {
+        return Some(true);
+    }
+    None
+}
+
+// How the player goes on, at a key that may be missing.
+fn resume(table: &Table, key: &str) -> Result<Option<bool>, ConfigError>
+    ensures ok { IfOk result (λ resume. resume_at key.now (table_view table.now) ≡ Some resume) }
+    ensures bad { OnErr result (resume_at key.now (table_view table.now) ≡ None) }
+{
+    let value = match table.get(key) {
+        Some(value) => value,
+        None => {
+            return Ok(None);
+        }
+    };
+    let text = match value.as_str() {
+        Some(text) => text,
+        None => return Err(ConfigError::Bad),
+    };
+    match resume_named(text) {
+        Some(plays) => Ok(Some(plays)),
+        None => Err(ConfigError::Bad),
+    }
+}
+
+// So many seconds, up to an hour.
+fn seconds_within(number: i64) -> Option<u32>
+    ensures { result ≡ seconds_of number }
+{
+    if 0 <= number && number <= 3600 {
+        Some(number as u32)
+    } else {
+        None
+    }
+}
+
+// The seconds at a key that may be missing.
+fn seconds(table: &Table, key: &str) -> Result<u32, ConfigError>
+    ensures ok { IfOk result (λ seconds. seconds_at key.now (table_view table.now) ≡ Some seconds) }
+    ensures bad { OnErr result (seconds_at key.now (table_view table.now) ≡ None) }
+{
+    let value = match table.get(key) {
+        Some(value) => value,
+        None => return Ok(30),
+    };
+    let number = match value.as_integer() {
+        Some(number) => number,
+        None => return Err(ConfigError::Bad),
+    };
+    match seconds_within(number) {
+        Some(seconds) => Ok(seconds),
         None => Err(ConfigError::Bad),
     }
 }

@@ -16,12 +16,14 @@ pub enum ConfigKey {
     Formats,
     Decoder,
     StockClients,
+    Resume,
+    PlaceEvery,
     Debug,
 }
 
 impl ConfigKey {
     /// In the order in which what is wrong with them is told.
-    pub const ALL: [ConfigKey; 12] = [
+    pub const ALL: [ConfigKey; 14] = [
         ConfigKey::Music,
         ConfigKey::JournalA,
         ConfigKey::JournalB,
@@ -33,6 +35,8 @@ impl ConfigKey {
         ConfigKey::Formats,
         ConfigKey::Decoder,
         ConfigKey::StockClients,
+        ConfigKey::Resume,
+        ConfigKey::PlaceEvery,
         ConfigKey::Debug,
     ];
 
@@ -52,6 +56,8 @@ impl ConfigKey {
             ConfigKey::Formats => "formats",
             ConfigKey::Decoder => "decoder",
             ConfigKey::StockClients => "stock_clients",
+            ConfigKey::Resume => "resume",
+            ConfigKey::PlaceEvery => "place_every",
             ConfigKey::Debug => "debug",
         }
     }
@@ -70,6 +76,8 @@ impl ConfigKey {
             ConfigKey::Formats =>
                 "a list of \"wave\" and perhaps \"wave-pcm\", \"flac\", each once",
             ConfigKey::Decoder => "the path of a decoder's socket in quotes, not empty",
+            ConfigKey::Resume => "\"paused\" or \"playing\"",
+            ConfigKey::PlaceEvery => "seconds from 0 to 3600, without quotes",
             ConfigKey::StockClients | ConfigKey::Debug => "true or false, without quotes",
         }
     }

@@ -216,8 +216,8 @@ fn ended<D>(ending: Ending, migrated: bool, last: ClientEnd<D>) -> ConsoleEnd<D>
 /// Opens the journal on the disks of files a and b under a profile, and serves one client from its connect to the end of its input, or
 /// until a request closes it.
 ///
-/// Where a request began a job of the database, the job's scan over the folder follows at once: before the next request all of the
-/// folder, or of the part that was asked for, is read, by these rules, and the job is over. Where a clock is given, it tells the time
+/// Where a request began jobs of the database, their scans over the folder follow at once: before the next request all of the folder, or
+/// of the part that was asked for, is read for each, by these rules, and the jobs are over. Where a clock is given, it tells the time
 /// before each request.
 ///
 /// After a disk fault that client is closed, the journal is opened again, and a new client is served with what is left of the

@@ -31,7 +31,7 @@ use log::{Level, Log, Logged, warn};
 use mio::Waker;
 use mio::net::{TcpListener, UnixListener};
 use mio_clients::{Clients, Socket, SocketListener, SocketReady};
-use mpd_server::{Opened, ServeEnd, ServeStatus, Stop, Workers, open_journal};
+use mpd_server::{Opened, Resuming, ServeEnd, ServeStatus, Stop, Workers, open_journal};
 use profile::Profile;
 use song_output::SoundOutput;
 use stage_workers::Wake;
@@ -256,6 +256,17 @@ fn tell_descriptors(rt: &HostRuntime) {
     }
 }
 
+/// How the player goes on: as the configuration says, where the profile keeps its place.
+fn resuming(config: &ServeConfig) -> Resuming {
+    match config.profile() {
+        Profile::Named => Resuming::NEVER,
+        Profile::Wide => Resuming {
+            plays: config.resume,
+            place_every: config.place_every,
+        },
+    }
+}
+
 /// Listens, and only then empties the output.
 fn begin<'a>(
     rt: &'a HostRuntime,
@@ -281,6 +292,7 @@ fn begin<'a>(
             writer: output,
             form: config.form,
         },
+        resuming: resuming(config),
         stop,
         wake,
     };

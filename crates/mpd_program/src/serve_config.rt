@@ -32,6 +32,10 @@ pub struct ServeConfig {
     pub decoder: Option<String>,
     /// Whether the daemon knows more of MPD than the named subset: what stock clients ask for.
     pub stock_clients: bool,
+    /// Whether the player goes on at the beginning of a life, and whether a song that played then plays on.
+    pub resume: Option<bool>,
+    /// Every how many seconds of play its place is kept.
+    pub place_every: u32,
     /// Whether the log has a line for each file that a job left out.
     pub debug: bool,
 }
@@ -53,6 +57,8 @@ impl Model for ServeConfig {
       formats = c.formats;
       decoder = option_map string_bytes c.decoder;
       stock_clients = c.stock_clients;
+      resume = c.resume;
+      place_every = c.place_every;
       debug = c.debug;
     } };
 }
@@ -84,6 +90,8 @@ impl ServeConfig {
             formats,
             decoder,
             stock_clients,
+            resume,
+            place_every,
             debug,
         } = config;
         let Some(output) = output else {
@@ -106,6 +114,8 @@ impl ServeConfig {
             formats,
             decoder,
             stock_clients,
+            resume,
+            place_every,
             debug,
         })
     }

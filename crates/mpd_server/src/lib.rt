@@ -19,4 +19,4 @@ pub use job_folder::{JobFolder, MAX_LISTINGS, MAX_OPENINGS, Visits};
 pub use line_limit::{LineLimit, TimedLimit};
 pub use opening::{Opened, open_journal};
 pub use server::serve;
-pub use workers::{NothingWaits, Stop, Workers};
+pub use workers::{NothingWaits, Resuming, Stop, Workers};

@@ -19,7 +19,8 @@ use song_db::ScanOrder;
 use song_files::Folder;
 use song_output::{OpenGate, SoundOutput};
 use stage_workers::{
-    Blanks, Kind, Pass, PassesSpent, SharedStage, Wake, Worker, player_worker, scan_worker,
+    Blanks, Kind, Pass, PassesSpent, SharedStage, Wake, Worker, player_worker, resume_player,
+    scan_worker,
 };
 use std::alloc::Global;
 use std::cell::Cell;
@@ -49,6 +50,35 @@ impl<C: Ledger, P: Ledger, S: Ledger> Passes<C, P, S> {
             player: stage.pass(rt, Kind::Player)?,
             scan: stage.pass(rt, Kind::Scan)?,
         })
+    }
+
+    // The player goes on from where it was kept, if it is to.
+    fn resumed<D: Disk, H, K: Wake, R: Wait + Clock>(
+        self,
+        rt: &R,
+        alloc: Global,
+        stage: &SharedStage<D, C, P, S>,
+        signals: &Signals<H, K>,
+    ) -> Passes<C, P, S> {
+        let Some(plays) = signals.resuming.plays else {
+            return self;
+        };
+        let worker = Worker {
+            rt,
+            alloc,
+            stage,
+            wake: &signals.wake,
+        };
+        let Passes {
+            clients,
+            player,
+            scan,
+        } = self;
+        Passes {
+            clients,
+            player: resume_player(&worker, player, plays),
+            scan,
+        }
     }
 }
 
@@ -116,7 +146,7 @@ fn play<
     rt: &R,
     alloc: Global,
     stage: &SharedStage<D, C, P, S>,
-    (wake, ends, profile): (&K, &Ends, Profile),
+    (wake, ends, profile, place_every): (&K, &Ends, Profile, u32),
     pass: Pass<C, P, S>,
     sources: F,
     mut output: SoundOutput<W>,
@@ -133,7 +163,14 @@ fn play<
         files: sources,
         opening: &opening,
     };
-    let pass = player_worker(&worker, pass, &OpenGate, &mut noted, &mut output);
+    let pass = player_worker(
+        &worker,
+        pass,
+        &OpenGate,
+        &mut noted,
+        &mut output,
+        place_every,
+    );
     ends.player_ended(rt);
     let NotedFolder { files, opening: _ } = noted;
     (pass, files, output)
@@ -178,7 +215,7 @@ fn start_player<
     rt: &'s R,
     alloc: Global,
     stage: &'s SharedStage<D, C, P, S>,
-    (wake, ends, profile): (&'s K, &'s Ends, Profile),
+    (wake, ends, profile, place_every): (&'s K, &'s Ends, Profile, u32),
     pass: Pass<C, P, S>,
     sources: F,
     output: SoundOutput<W>,
@@ -190,7 +227,7 @@ where
         rt,
         alloc,
         stage,
-        (wake, ends, profile),
+        (wake, ends, profile, place_every),
         pass,
         sources,
         output,
@@ -262,6 +299,7 @@ where
     } = tools;
     let wake = (&signals.wake, ends);
     let stop = &signals.stop;
+    let place_every = signals.resuming.place_every;
     thread::scope(
         thread::scope_env(),
         rt,
@@ -286,7 +324,7 @@ where
                 rt,
                 alloc,
                 stage,
-                (waker, ends, profile),
+                (waker, ends, profile, place_every),
                 player,
                 sources,
                 output,
@@ -367,6 +405,7 @@ where
     if let Ok(passes) = Passes::of(rt, &stage) {
         let ends = Ends::none();
         let jobs = (profile, Jobs::new(sender, signals.rules), orders);
+        let passes = passes.resumed(rt, alloc, &stage, signals);
         let tools = (tools, signals, &ends);
         let worked = work(rt, alloc, &stage, passes, clients, tools, jobs);
         is_ended = worked.turns.is_ended;

@@ -21,6 +21,23 @@ impl Stop for NothingWaits {
     fn resume(&self) {}
 }
 
+/// What becomes of the player at the beginning of a life, and how often its place is kept as it plays.
+#[derive(Clone, Copy, Debug)]
+pub struct Resuming {
+    /// Whether it goes on from where it was kept; a song that played then plays on, or is paused.
+    pub plays: Option<bool>,
+    /// The place is kept each so many seconds of play, never where that is 0.
+    pub place_every: u32,
+}
+
+impl Resuming {
+    /// It stays stopped, and its place is kept by what changes it alone.
+    pub const NEVER: Resuming = Resuming {
+        plays: None,
+        place_every: 0,
+    };
+}
+
 /// What the threads of the player and of the scan work on.
 #[derive(Drop)]
 pub struct Workers<F, G, W, H, K> {
@@ -32,6 +49,8 @@ pub struct Workers<F, G, W, H, K> {
     pub rules: LibraryRules,
     /// Where the sound goes, and in which form.
     pub output: SoundOutput<W>,
+    /// How the player goes on.
+    pub resuming: Resuming,
     /// What ends the waits of these.
     pub stop: H,
     /// What ends a wait of the loop, behind each report.
@@ -46,10 +65,12 @@ pub(crate) struct Tools<F, G, W> {
     pub(crate) output: SoundOutput<W>,
 }
 
-// What stays in the thread of the loop: what ends waits, of the threads and of the loop, and the rules that jobs are given.
+// What stays in the thread of the loop: what ends waits, of the threads and of the loop, the rules that jobs are given, and
+// how the player goes on.
 #[derive(Drop)]
 pub(crate) struct Signals<H, K> {
     pub(crate) rules: LibraryRules,
+    pub(crate) resuming: Resuming,
     pub(crate) stop: H,
     pub(crate) wake: K,
 }
@@ -62,6 +83,7 @@ impl<F, G, W, H, K> Workers<F, G, W, H, K> {
             folder,
             rules,
             output,
+            resuming,
             stop,
             wake,
         } = self;
@@ -71,7 +93,12 @@ impl<F, G, W, H, K> Workers<F, G, W, H, K> {
                 folder,
                 output,
             },
-            Signals { rules, stop, wake },
+            Signals {
+                rules,
+                resuming,
+                stop,
+                wake,
+            },
         )
     }
 }

@@ -9,3 +9,4 @@ pub mod RoundIds
 pub mod Rounds
 pub mod MadeWords
 pub mod BadSongs
+pub mod KeptRounds

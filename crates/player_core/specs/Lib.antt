@@ -9,6 +9,7 @@ pub mod Ending
 pub mod Commands
 pub mod Seek
 pub mod Reports
+pub mod Place
 pub mod Round
 pub mod BadSongs
 pub mod Shown

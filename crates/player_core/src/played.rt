@@ -28,7 +28,7 @@ pub(crate) fn remove(played: &mut IndexSet<u32>, id: u32)
 }
 
 // In random mode an id goes to the end of the list.
-fn note(played: &mut IndexSet<u32>, random: bool, id: u32)
+pub(crate) fn note(played: &mut IndexSet<u32>, random: bool, id: u32)
     requires { IsTrue random → 0 < spare played.old }
     ensures { played.new.keys ≡ noted random id played.old.keys }
 {

@@ -60,6 +60,38 @@ impl Player {
         }
     }
 
+    // With a song current at a frame, started under the first ticket, after these ones in its round.
+    pub(crate) fn at(
+        alloc: Global,
+        state: PlayState,
+        current: Option<u32>,
+        frame: u64,
+        played: IndexSet<u32>,
+    ) -> Player
+        ensures { result ≡ record {
+          state = state;
+          current = current;
+          ticket = 1;
+          frame = frame;
+          played = played.keys;
+          error = None;
+          failures = 0;
+        } }
+    {
+        Player {
+            playing: Playing {
+                state,
+                current,
+                ticket: 1,
+                frame,
+                error: None,
+                failures: 0,
+            },
+            played,
+            words: WordTable::new(alloc, [0; 32], 0),
+        }
+    }
+
     /// The same player once more, in memory of its own.
     pub fn try_clone(&self, alloc: Global) -> Result<Player, AllocError>
         ensures { IfOk result (λ player. player ≡ self.now) }

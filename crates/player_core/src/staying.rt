@@ -2,6 +2,7 @@
 ghost use Rattle.std.specs.Prelude.{◌≡◌, ◌≤◌, length, drop};
 ghost use Rattle.play_queue.specs.Entries.{is_among};
 ghost use Rattle.play_queue.specs.Shown.{shown};
+ghost use Rattle.player_core.specs.Reports.{takes_at};
 ghost use Rattle.player_core.specs.Staying.{takes, staying, first_id};
 
 use crate::block::Block;
@@ -38,4 +39,14 @@ pub(crate) fn first_staying(
         }
     }
     None
+}
+
+// Whether the entry at a position, if there is one, leaves.
+pub(crate) fn takes_at(block: Block, dropped: &[Uri], entries: &Entries, at: usize) -> bool
+    ensures { result ≡ takes_at block dropped.now entries.now at }
+{
+    match entries.get(at) {
+        Some(entry) => takes(block, dropped, at, &entry),
+        None => false,
+    }
 }

@@ -6,5 +6,6 @@ mod SetSteps
 mod Visits
 mod Reached
 mod Tracks
+mod Leaves
 mod Moving
 mod Searching

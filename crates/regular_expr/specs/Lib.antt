@@ -1,6 +1,7 @@
 pub mod Sets
 pub mod Places
 pub mod Shape
+pub mod Leaves
 pub mod Marks
 pub mod Spans
 pub mod Classes

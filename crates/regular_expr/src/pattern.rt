@@ -35,7 +35,9 @@ impl Model for Pattern {
 }
 
 impl Pattern {
-    /// The pattern that a text spells, if it is one.
+    /// The pattern that a text spells, if it is one: in PCRE2's syntax, as far as the README names it, with at most 16 parentheses open at
+    /// once, 512 leaves (bytes, classes and places, where what is repeated counts as often) and 255 repetitions by a number. It takes time
+    /// with the text's length, and memory for each leaf and each range of a class.
     #[tactic(auto, unfolding(crate::specs::Patterns::is_pattern, crate::specs::Reading::pattern_in))]
     pub fn parse(alloc: Global, text: &[u8]) -> Result<Option<Pattern>, AllocError>
         ensures { IfOk result (λ pattern. pattern ≡ (if is_pattern text.now then Some text.now else None)) }
@@ -104,17 +106,22 @@ fn stands_in(root: &Part, fold: bool, text: &[u8]) -> bool
 {
     let mut before = None;
     let mut marks = Marks::new();
+    let mut next = Marks::new();
     for byte in text {
         let here = Here {
             fold,
             before,
             next: Some(*byte),
         };
-        let mut next = Marks::new();
+        next.clear();
         if root.step(here, true, &marks, &mut next).0 {
             return true;
         }
-        marks = next;
+        // Of the marks as many are copied as there are leaves.
+        marks.clear();
+        if marks.try_extend_from_slice(&next).is_err() {
+            unreachable!();
+        }
         before = Some(*byte);
     }
     let here = Here {

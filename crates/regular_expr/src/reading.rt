@@ -1,11 +1,12 @@
 // Reads a pattern from its text.
-ghost use Rattle.std.specs.Prelude.{◌≡◌, ◌≤◌, ◌<◌, ◌+◌, ◌∷◌, false, true, length, option_map, option_copied, map, Some, IfOk, IfSome};
+ghost use Rattle.std.specs.Prelude.{◌≡◌, ◌≤◌, ◌<◌, ◌+◌, ◌∷◌, false, true, length, option_map, option_copied, map, Some, IfOk, IfSome, OnOk};
 ghost use Rattle.regular_expr.specs.Classes.{alone};
 ghost use Rattle.regular_expr.specs.Gives.{Gives};
 ghost use Rattle.regular_expr.specs.Reading.{of_ranges, place_of, escape_at, behind_colon, grouped, group_at, is_behind_parts, simple_at, atom_at};
 ghost use Rattle.regular_expr.specs.Reading.{is_place_alone, often_at, behind_lazy, repeated_by, quantified, piece_at, followed, joined, fitting, part_behind, alternative, is_body_end};
 ghost use Rattle.regular_expr.specs.Reading.{body_from, body_at, behind_flag};
-ghost use Rattle.regular_expr.specs.Shape.{shape_of};
+ghost use Rattle.regular_expr.specs.Leaves.{IsCounted, leaves_behind, leaves_before};
+ghost use Rattle.regular_expr.specs.Shape.{shape_of, leaves};
 
 use crate::byte_set::{ByteRange, ByteSet};
 use crate::classes::{class_of, escaped_at, set_at};
@@ -238,22 +239,74 @@ pub(crate) fn fitting(part: Part) -> Result<Part, Fault>
     Ok(part)
 }
 
-/// A part behind these.
-#[cycle(body)]
-#[tactic(auto, unfolding(crate::specs::Reading::part_behind))]
-fn part_behind(alloc: Global, room: u32, now: Part, text: &[u8]) -> Result<(Part, &[u8]), Fault>
-    ensures exact { Gives (λ x. (shape_of x.0, x.1.now)) result (part_behind (body_at room) (shape_of now) text.now) }
-    ensures shorter { IfOk result (λ x. length x.1.now < length text.now) }
+/// How many leaves parts have with one more behind them, where they have so many, and it has so many.
+fn leaves_behind(now: &Part, count: u32, own: u32) -> u32
+    requires few { count ≤ 512 }
+    requires counted { own ≤ 65535 }
+    ensures { result ≡ leaves_behind (shape_of now.now) count own }
 {
-    let (part, rest) = piece_at(alloc, room, text)?;
-    Ok((fitting(followed(alloc, now, part)?)?, rest))
+    match now {
+        Part::Nothing => own,
+        _ => count + own,
+    }
 }
 
-/// These parts are an alternative behind others.
-fn alternative(alloc: Global, others: Option<Part>, now: Part) -> Result<Part, Fault>
-    ensures { Gives shape_of result (alternative (option_map shape_of others) (shape_of now)) }
+/// A part that has so many leaves, if it isn't too large: they aren't counted anew.
+fn fitting_by(part: Part, count: u32) -> Result<Part, Fault>
+    requires { IsCounted count (shape_of part) }
+    ensures exact { Gives shape_of result (fitting (shape_of part)) }
+    ensures counted { IfOk result (λ fit. count ≡ leaves (shape_of fit)) }
+    ensures few { OnOk result (count ≤ 512) }
 {
-    fitting(joined(alloc, others, now)?)
+    if count > MOST_LEAVES as u32 {
+        return Err(Fault::NoPattern);
+    }
+    Ok(part)
+}
+
+/// A part behind these, which have so many leaves, and how many they all have.
+#[cycle(body)]
+#[tactic(auto, using(crate::proofs::Leaves::counted_parts), unfolding(crate::specs::Reading::part_behind))]
+fn part_behind(
+    alloc: Global,
+    room: u32,
+    now: Part,
+    count: u32,
+    text: &[u8],
+) -> Result<(Part, u32, &[u8]), Fault>
+    requires counted { count ≡ leaves (shape_of now) }
+    requires few { count ≤ 512 }
+    ensures exact { Gives (λ x. (shape_of x.0, x.2.now)) result (part_behind (body_at room) (shape_of now) text.now) }
+    ensures counted { IfOk result (λ x. x.1 ≡ leaves (shape_of x.0)) }
+    ensures few { IfOk result (λ x. x.1 ≤ 512) }
+    ensures shorter { IfOk result (λ x. length x.2.now < length text.now) }
+{
+    let (part, rest) = piece_at(alloc, room, text)?;
+    let leaves = leaves_behind(&now, count, part.leaves());
+    let parts = followed(alloc, now, part)?;
+    Ok((fitting_by(parts, leaves)?, leaves, rest))
+}
+
+/// These parts, which have so many leaves, are an alternative behind others, which have so many.
+#[tactic(auto, using(crate::proofs::Leaves::counted_all))]
+fn alternative(
+    alloc: Global,
+    others: Option<Part>,
+    before: u32,
+    now: Part,
+    count: u32,
+) -> Result<(Part, u32), Fault>
+    requires others { before ≡ leaves_before (option_map shape_of others) }
+    requires few { before ≤ 512 }
+    requires counted { count ≡ leaves (shape_of now) }
+    requires short { count ≤ 512 }
+    ensures exact { Gives (λ x. shape_of x.0) result (alternative (option_map shape_of others) (shape_of now)) }
+    ensures counted { IfOk result (λ x. x.1 ≡ leaves (shape_of x.0)) }
+    ensures few { IfOk result (λ x. x.1 ≤ 512) }
+{
+    let leaves = before + count;
+    let all = joined(alloc, others, now)?;
+    Ok((fitting_by(all, leaves)?, leaves))
 }
 
 /// Whether a closing parenthesis or the end is here.
@@ -277,20 +330,26 @@ pub(crate) fn body_at(alloc: Global, room: u32, text: &[u8]) -> Result<(Part, &[
         return Err(Fault::NoPattern);
     }
     let mut others = None;
+    let mut before = 0;
     let mut now = Part::Nothing;
+    let mut count = 1;
     let mut rest = text;
     'parts: loop {
         if is_body_end(rest) {
             return Ok((joined(alloc, others, now)?, rest));
         }
         if let Some(behind) = byte_at(b'|', rest) {
-            others = Some(alternative(alloc, others, now)?);
+            let (all, leaves) = alternative(alloc, others, before, now, count)?;
+            others = Some(all);
+            before = leaves;
             now = Part::Nothing;
+            count = 1;
             rest = behind;
             continue 'parts;
         }
-        let (parts, left) = part_behind(alloc, room - 1, now, rest)?;
+        let (parts, leaves, left) = part_behind(alloc, room - 1, now, count, rest)?;
         now = parts;
+        count = leaves;
         rest = left;
     }
 }

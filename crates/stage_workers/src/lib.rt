@@ -24,7 +24,7 @@ pub use kind::Kind;
 pub use locked::Locked;
 pub use outbox::{Outbox, Outputs};
 pub use pass::Pass;
-pub use player::player_worker;
+pub use player::{player_worker, resume_player};
 pub use refusal::{PassesSpent, SettleError, StageError};
 pub use scan::{ScanFolder, Scanned, next_changes, scan_worker};
 pub use served::{Served, ServedGroup, Way};

@@ -144,7 +144,50 @@ fn is_short<S>(song: &Option<OpenSong<S>>, order: &PlayOrder) -> bool
     }
 }
 
-/// Plays what is ordered until the stage is closed or refuses, and hands the pass back.
+// What was kept last of the song that plays: its ticket, and the frame from which it is counted.
+#[derive(Clone, Copy, Debug)]
+struct LastKept {
+    ticket: u64,
+    frame: u64,
+}
+
+impl LastKept {
+    // Whether so many seconds of the song have been played since, or since it was started: then they are counted anew.
+    fn is_due<S>(&mut self, seconds: u32, song: &Option<OpenSong<S>>, order: &PlayOrder) -> bool {
+        if self.ticket != order.ticket {
+            self.ticket = order.ticket;
+            self.frame = order.first_frame;
+        }
+        let Some(song) = song else {
+            return false;
+        };
+        let frames = u128::from(song.next_frame.saturating_sub(self.frame));
+        let due = u128::from(song.info.rate) * u128::from(seconds);
+        if seconds == 0 || frames < due {
+            return false;
+        }
+        self.frame = song.next_frame;
+        true
+    }
+}
+
+/// The player goes on from where it was kept: an event made before any other of a life. Where the stage refuses it, as it then does all
+/// others, nothing is done.
+pub fn resume_player<D: Disk, C: Ledger, P: Ledger, S: Ledger, R: Wait + Clock, K: Wake>(
+    worker: &Worker<'_, D, C, P, S, R, K>,
+    pass: Pass<C, P, S>,
+    plays: bool,
+) -> Pass<C, P, S>
+    ensures { GoesOn pass result }
+{
+    match worker.report(pass, &Report::Resume { plays }) {
+        Ok(pass) => pass,
+        Err((_, pass)) => pass,
+    }
+}
+
+/// Plays what is ordered until the stage is closed or refuses, and hands the pass back. Behind each order by which a song has come so many
+/// seconds past what was kept of it last, or past its start, the place is kept: never where that is 0.
 ///
 /// Nothing is written while the lock is held, and nothing is kept behind the output: what a listener hears of an older order is at most
 /// the piece that was begun, and what the output itself holds. Where memory is wanting, for a look or in opening or reading, it looks anew.
@@ -166,12 +209,17 @@ pub fn player_worker<
     gate: &G,
     folder: &mut F,
     output: &mut SoundOutput<W>,
+    place_every: u32,
 ) -> Pass<C, P, S>
     ensures { GoesOn pass result }
 {
     let mut pass = pass;
     let mut song = None;
     let mut last_two = (false, false);
+    let mut kept = LastKept {
+        ticket: 0,
+        frame: 0,
+    };
     for _ in worker.rt.forever() {
         if last_two == (true, true) {
             worker.rest(SILENCE);
@@ -181,7 +229,13 @@ pub fn player_worker<
             Ok(Some(order)) => {
                 let done = play_once(worker, pass, gate, folder, output, &mut song, &order);
                 last_two = (last_two.1, is_short(&song, &order));
-                done
+                match done {
+                    Ok(back) if kept.is_due(place_every, &song, &order) => {
+                        let ticket = order.ticket;
+                        worker.report(back, &Report::Keep { ticket })
+                    }
+                    done => done,
+                }
             }
             Err(LiveError::NoMemory) => Err((StageError::NoMemory, pass)),
             Err(_) => break,

@@ -49,6 +49,8 @@ pub(crate) enum Report {
     Broken { ticket: u64, cause: BrokenCause },
     Batch { job: u32, changes: Changes },
     ScanDone { job: u32 },
+    Keep { ticket: u64 },
+    Resume { plays: bool },
 }
 
 impl Report {
@@ -69,6 +71,8 @@ impl Report {
                 changes: changes.try_clone(alloc)?,
             },
             Report::ScanDone { job } => Event::ScanDone { job: *job },
+            Report::Keep { ticket } => Event::Keep { ticket: *ticket },
+            Report::Resume { plays } => Event::Resume { plays: *plays },
         })
     }
 }

@@ -5,14 +5,16 @@ use Rattle.std.specs.Option.{option_and_then, ok_or}
 use Rattle.std.specs.Result.{result_ok}
 use Rattle.std.specs.List.{AllByRecursion}
 use Rattle.profile.specs.declared.profile.Profile.{Profile}
+use Rattle.profile.specs.declared.profile.Profile.TheVariants.{Named, Wide}
 use Rattle.state_codec.specs.declared.op.Op.{Op}
-use Rattle.state_codec.specs.declared.op.Op.TheVariants.{SetOption, SetVolume, SetOrder, Queue, List as Lists, Sticker, Batch}
+use Rattle.state_codec.specs.declared.op.Op.TheVariants.{SetOption, SetVolume, SetOrder, Queue, List as Lists, Sticker, Batch, Place}
 use Rattle.state_codec.specs.declared.op.queue_op.QueueOp.{QueueOp}
 use Rattle.state_codec.specs.declared.op.queue_op.QueueOp.TheVariants as queue
 use Rattle.state_codec.specs.Changes.{are_kept}
 use Rattle.state_codec.specs.declared.refusal.OpRefusal.{OpRefusal}
 use Rattle.state_codec.specs.SavedState.{SavedState, IsSavedState}
-use Rattle.state_codec.specs.Ops.{IsOp, IsKeptOp}
+use Rattle.state_codec.specs.Ops.{IsOp, IsKeptOp, KeepsPlace}
+use Rattle.state_codec.specs.OpsPlace.{place_refusal}
 use Rattle.state_codec.specs.OpsQueue.{after_queue}
 use Rattle.state_codec.specs.Steps.{◌>>=◌}
 use Rattle.state_codec.specs.Applied.{refusal_of, after, unless_refused, applied, applied_from, all_applied}
@@ -72,6 +74,11 @@ kept_op (Queue op) s none = tt
 kept_op (Lists op) s none = tt
 kept_op (Sticker op) s none = tt
 kept_op (Batch changes) s none = (kept_none (are_kept s.profile changes) _ none).0
+kept_op (Place op) s none = of s.profile none
+  where
+    of : (p : Profile) → place_refusal p ≡ None → KeepsPlace p
+    of Named none = absurd (cc)
+    of Wide none = tt
 
 queue_profile : (op : QueueOp) (s : SavedState) → (after_queue op s).profile ≡ s.profile
 queue_profile (queue.Add at rows) s = refl
@@ -90,6 +97,7 @@ same_profile (Queue op) s = queue_profile op s
 same_profile (Lists op) s = refl
 same_profile (Sticker op) s = refl
 same_profile (Batch changes) s = refl
+same_profile (Place op) s = refl
 
 -- what ops that apply one after the other keep
 abbrev pub KeepsProfile : List Op → SavedState → SavedState → Type 0

@@ -11,7 +11,7 @@ use Rattle.song_db.specs.Row.{Row}
 use Rattle.stored_lists.specs.Refusal.{Answers as AnswersLists, AnswersIfMemory as ListsIfMemory}
 use Rattle.stored_lists.specs.declared.refusal.ListsError.{ListsError}
 use Rattle.stored_lists.specs.declared.refusal.ListsError.TheVariants.{NoMemory as ListsMemory}
-use Rattle.state_codec.specs.Editing.{AnswersCheck, IsEdit, queue_told, lists_told}
+use Rattle.state_codec.specs.Editing.{AnswersCheck, IsEdit, QueueEdit, queue_told, lists_told}
 use Rattle.state_codec.specs.OpsSongs.{have_rows, uris_at, if_named}
 use Rattle.state_codec.specs.SavedState.{SavedState}
 use Rattle.state_codec.specs.declared.refusal.ApplyError.{ApplyError}
@@ -68,3 +68,11 @@ pub past_end : {X : Type 0} (xs : List X) (n : ℕ) → length xs ≤ n → slic
 past_end [] n past = refl
 past_end (x ∷ xs) zero past = absurd (omega arith)
 past_end (x ∷ xs) (suc n) past = past_end xs n (omega arith)
+
+-- an edit of the queue that isn't refused succeeds
+pub told_made : (o : Option QueueError) (q : Result (Unit {0}) QueueError) (r : Result (Unit {0}) ApplyError) (edited before after : SavedState)
+    → o ≡ None → AnswersQueue o q → QueueEdit q r → after ≡ edited → IsEdit (option_map Queue o) edited before after r
+told_made None (Ok x) (Ok y) edited before after none answer told same = record { ok = same; err = tt; answer = tt }
+told_made None (Ok x) (Err e) edited before after none answer told same = absurd (cc)
+told_made None (Err e) r edited before after none answer told same = absurd (cc)
+told_made (Some e) q r edited before after none answer told same = absurd (cc)

@@ -9,11 +9,13 @@ use Rattle.std.proofs.lemmas.List.{length-map, length-append}
 use Rattle.std.proofs.lemmas.List.Elements.{All-append}
 use Rattle.std.proofs.lemmas.List.Edits.{length-between}
 use Rattle.play_queue.specs.declared.entry.Entry.{Entry}
-use Rattle.play_queue.specs.Entries.{block}
+use Rattle.play_queue.specs.Entries.{block, deleted}
 use Rattle.play_queue.specs.Limits.{MAX_ENTRIES as QUEUE_ENTRIES, MAX_ID}
-use Rattle.play_queue.specs.Queue.{QueueState}
+use Rattle.play_queue.specs.Queue.{QueueState, ruled}
 use Rattle.play_queue.specs.Refused.{add_refusal as queue_add_refusal, range_refusal, move_refusal as queue_move_refusal, swap_refusal}
+use Rattle.player_core.specs.Place.{PlaceState, place_left}
 use Rattle.player_core.specs.Words.{word, next_order}
+use Rattle.song_db.specs.Scan.{drops_of}
 use Rattle.song_db.specs.Change.{has_uri}
 use Rattle.song_db.specs.Uri.{is_uri}
 use Rattle.stored_lists.specs.declared.refusal.ListsError.TheVariants.{ListsFull}
@@ -40,18 +42,19 @@ use Rattle.state_codec.specs.declared.refusal.OpRefusal.{OpRefusal}
 use Rattle.state_codec.specs.Applied.{refusal_of, after}
 use Rattle.state_codec.specs.Ops.{IsOp, IsQueueOp, IsListOp, IsStickerOp}
 use Rattle.state_codec.specs.OpsLists.{list_refusal, lists_after, uris_of}
-use Rattle.state_codec.specs.OpsQueue.{queue_refusal, after_queue, words_for}
+use Rattle.state_codec.specs.OpsQueue.{queue_refusal, after_queue, range, words_for}
 use Rattle.state_codec.specs.Changes.{are_kept}
-use Rattle.state_codec.specs.OpsRows.{if_kept}
+use Rattle.state_codec.specs.OpsRows.{if_kept, no_range}
 use Rattle.state_codec.specs.OpsSongs.{have_rows, uris_at, if_named}
 use Rattle.state_codec.specs.OpsStickers.{sticker_refusal, stickers_after}
-use Rattle.state_codec.specs.SavedState.{SavedState, IsSavedState, IsSavedQueue, AreSavedLists, AreSavedStickers}
+use Rattle.state_codec.specs.SavedState.{SavedState, IsSavedPlace, IsSavedState, IsSavedQueue, AreSavedLists, AreSavedStickers}
 use Rattle.state_codec.specs.Text.{is_text}
 use Rattle.state_codec.proofs.Edits.{length-uris_at}
 use Rattle.state_codec.proofs.KeptLists.{kept_with_list, kept_with_songs, kept_without_list, kept_renamed}
 use Rattle.state_codec.proofs.KeptQueue.{kept_added, kept_deleted, kept_moved, kept_swapped, kept_shuffled, kept_prioritized}
 use Rattle.state_codec.proofs.KeptRows.{kept_songs, kept_by_profile, kept_batch, stickers_left}
 use Rattle.state_codec.proofs.KeptStickers.{kept_filter, kept_set}
+use Rattle.state_codec.proofs.PlaceLaws.{kept_saved_left, kept_saved_place}
 use Rattle.state_codec.proofs.Named.{uris_have_rows, are_uris, entries_are_uris}
 
 pub map_none : {X Y : Type 0} (f : X → Y) (o : Option X) → option_map f o ≡ None → o ≡ None
@@ -129,6 +132,22 @@ with_queue s q order saved kept low = record {
   queue = kept;
   lists = saved.lists;
   stickers = saved.stickers;
+  place = saved.place;
+}
+
+pub with_place : (s : SavedState) (place : Option PlaceState) → IsSavedState s → IsSavedPlace s.profile place
+    → IsSavedState (record s { place = place })
+with_place s place saved kept = record {
+  key_len = saved.key_len;
+  key_bytes = saved.key_bytes;
+  order = saved.order;
+  volume = saved.volume;
+  songs = saved.songs;
+  kept = saved.kept;
+  queue = saved.queue;
+  lists = saved.lists;
+  stickers = saved.stickers;
+  place = kept;
 }
 
 next_low : (order : ℕ) → order < 18446744073709551616 → next_order order < 18446744073709551616
@@ -147,8 +166,11 @@ kept_queue (queue.Add at rows) s form saved none =
     with_queue s _ s.order saved (kept_added s.songs s.queue at (uris_at s.songs rows) saved.queue (omega (arith, within.0))
     (omega (arith, within.1)) (uris_have_rows s.songs rows)) saved.order
 kept_queue (queue.Delete start end) s form saved none =
-    with_queue s _ s.order saved (kept_deleted s.songs s.queue start end saved.queue
-    (range_within s.queue.entries start end (map_none _ _ none)).0) saved.order
+    with_place (record s { queue = ruled s.queue (deleted s.queue.entries start end) [] })
+    (option_map (place_left (range start end) [] s.queue.entries) s.place)
+    (with_queue s _ s.order saved (kept_deleted s.songs s.queue start end saved.queue
+    (range_within s.queue.entries start end (map_none _ _ none)).0) saved.order)
+    (kept_saved_left (range start end) [] s.queue.entries s.profile s.place saved.place)
 kept_queue (queue.Move start end to) s form saved none =
     with_queue s _ s.order saved (kept_moved s.songs s.queue start end to saved.queue
     (move_forward s.queue.entries start end to (map_none _ _ none))) saved.order
@@ -197,6 +219,7 @@ with_lists s all saved kept = record {
   queue = saved.queue;
   lists = kept;
   stickers = saved.stickers;
+  place = saved.place;
 }
 
 -- new songs for a playlist that is there
@@ -319,6 +342,7 @@ kept_after (ops.SetOption setting) s form saved none =
           saved.queue;
       lists = saved.lists;
       stickers = saved.stickers;
+      place = saved.place;
     }
 kept_after (ops.SetVolume volume) s form saved none =
     record {
@@ -332,6 +356,7 @@ kept_after (ops.SetVolume volume) s form saved none =
           saved.queue;
       lists = saved.lists;
       stickers = saved.stickers;
+      place = saved.place;
     }
 kept_after (ops.SetOrder order) s form saved none =
     record {
@@ -345,6 +370,7 @@ kept_after (ops.SetOrder order) s form saved none =
           saved.queue;
       lists = saved.lists;
       stickers = saved.stickers;
+      place = saved.place;
     }
 kept_after (ops.Queue op) s form saved none = kept_queue op s form saved none
 kept_after (ops.List op) s form saved none = with_lists s (lists_after op s) saved (kept_list op s form saved none)
@@ -358,6 +384,7 @@ kept_after (ops.Sticker op) s form saved none = record {
   queue = saved.queue;
   lists = saved.lists;
   stickers = kept_sticker op s form saved none;
+  place = saved.place;
 }
 kept_after (ops.Batch changes) s form saved none = record {
   key_len = saved.key_len;
@@ -372,4 +399,17 @@ kept_after (ops.Batch changes) s form saved none = record {
     within = (kept_filter s.songs s.stickers _ saved.stickers).within;
     each = stickers_left s.songs changes s.stickers saved.songs.database saved.stickers.each;
   };
+  place = kept_saved_left no_range (drops_of changes) s.queue.entries s.profile s.place saved.place;
+}
+kept_after (ops.Place op) s form saved none = record {
+  key_len = saved.key_len;
+  key_bytes = saved.key_bytes;
+  order = saved.order;
+  volume = saved.volume;
+  songs = saved.songs;
+  kept = saved.kept;
+  queue = saved.queue;
+  lists = saved.lists;
+  stickers = saved.stickers;
+  place = kept_saved_place op s.profile s.place form saved.place;
 }

@@ -1,15 +1,17 @@
 -- How many bytes a snapshot has at most.
 use Rattle.std.proofs.Common.{◌≡◌, ℕ, ◌+◌, ◌*◌, ◌≤◌, Bool, true, false, eqb, leb, List, [], ◌∷◌, ◌++◌, length, Some, None, refl, sym, subst}
 use Rattle.std.proofs.Common.{arith, ◌<◌, ◌^◌, mul-le-mul_right}
-use Rattle.std.specs.Prelude.{Option, IsTrue}
+use Rattle.std.specs.Prelude.{Option, IsTrue, unwrap_or}
 use Rattle.std.specs.List.{AllByRecursion, flat_map, sum_by}
 use Rattle.std.specs.Int.{w16, to_le_bytes}
+use Rattle.std.specs.Option.{option_map_or}
 use Rattle.std.specs.Str.{is_utf8}
 use Rattle.std.proofs.lemmas.Bool.{leb-true}
-use Rattle.std.proofs.lemmas.List.{length-append}
+use Rattle.std.proofs.lemmas.List.{append-nil, length-append}
 use Rattle.std.proofs.lemmas.List.Concat.{length-flat_map}
 use Rattle.std.proofs.lemmas.List.Sums.{sum_by-le, sum_by-cons}
 use Rattle.play_queue.specs.declared.entry.Entry.{Entry}
+use Rattle.player_core.specs.Place.{PlaceState, no_place}
 use Rattle.player_core.specs.declared.options.Options.{Options}
 use Rattle.player_core.specs.declared.options.Single.{Single}
 use Rattle.player_core.specs.declared.options.Single.TheVariants.{Off, On, Oneshot}
@@ -29,14 +31,16 @@ use Rattle.state_codec.specs.Changes.{IsSavedRow, IsChange, AreChanges, is_kept_
 use Rattle.state_codec.specs.declared.op.Op.TheVariants.{Batch}
 use Rattle.state_codec.specs.Longest.{longest_told, longest_row, longest_batch, longest_sticker, longest_end, longest_snapshot}
 use Rattle.state_codec.specs.ReadingRows.{Told}
-use Rattle.state_codec.specs.SavedState.{SavedState, IsSavedState}
-use Rattle.state_codec.specs.Sealed.{sealed}
+use Rattle.state_codec.specs.SavedState.{SavedState, IsSavedPlace, IsSavedState}
+use Rattle.state_codec.specs.Sealed.{checksum_len, sealed}
 use Rattle.state_codec.specs.Spelling.{options_bytes, entry_bytes, playlist_bytes, sticker_bytes, head_bytes, parts_bytes, saved_bytes}
 use Rattle.state_codec.specs.Spelling.{with_fields}
 use Rattle.state_codec.specs.SpellingFields.{byte_bytes, u32_bytes, u64_bytes, flag_bytes, single_bytes, text_bytes, list_bytes}
 use Rattle.state_codec.specs.SpellingOps.{op_bytes}
+use Rattle.state_codec.specs.SpellingPlace.{place_bytes}
 use Rattle.state_codec.specs.SpellingRows.{tag_bytes, stamp_bytes, numbered_bytes, texts_bytes, row_fields_bytes, row_bytes, change_bytes}
 use Rattle.state_codec.proofs.FieldLaws.{both_true}
+use Rattle.state_codec.proofs.PlaceFields.{place_short}
 use Rattle.state_codec.proofs.RowLaws.{IsKeptRow, fields_fit}
 use Rattle.state_codec.proofs.SealedLaws.{sealed_len}
 use Rattle.state_codec.proofs.TagLaws.{IsTextOrNone, tag_text_short, six_good}
@@ -218,10 +222,34 @@ head_len s good =
       options_len s.options,
     )
 
+-- the fields are those of the place, where one is kept
+pub fields_told : (profile : Profile) (place : Option PlaceState) → IsSavedPlace profile place
+    → with_fields profile place [] ≡ option_map_or place_bytes place []
+fields_told Named None good = refl
+fields_told Named (Some place) good = absurd good
+fields_told Wide None good = absurd good
+fields_told Wide (Some place) good = refl
+
+-- and stand behind the parts
+pub fields_behind : (profile : Profile) (place : Option PlaceState) (bytes : List ℕ)
+    → with_fields profile place bytes ≡ bytes ++ with_fields profile place []
+fields_behind Named place bytes = sym (append-nil bytes)
+fields_behind Wide place bytes = refl
+
 -- what stands behind the parts
-pub end_len : (profile : Profile) (bytes : List ℕ) → length (sealed profile (with_fields profile bytes)) ≡ length bytes + longest_end profile
-end_len Named bytes = omega arith
-end_len Wide bytes = omega (arith, sealed_len Wide (bytes ++ byte_bytes 0), length-append bytes (byte_bytes 0))
+pub end_len : (profile : Profile) (place : Option PlaceState) (bytes : List ℕ)
+    → length (sealed profile (with_fields profile place bytes))
+    ≡ length bytes + length (with_fields profile place []) + checksum_len profile
+end_len Named place bytes = omega arith
+end_len Wide place bytes =
+    let fields = place_bytes (unwrap_or place no_place) in
+    omega (arith, sealed_len Wide (bytes ++ fields), length-append bytes fields)
+
+end_short : (profile : Profile) (place : Option PlaceState) → IsSavedPlace profile place
+    → length (with_fields profile place []) + checksum_len profile ≤ longest_end profile
+end_short Named place good = omega arith
+end_short Wide None good = absurd good
+end_short Wide (Some place) good = omega (arith, place_short place good)
 
 pub rows_len : (profile : Profile) (rows : List Row) → AllByRecursion IsSavedRow rows → AllByRecursion (λ row. IsTrue (is_kept_by profile row)) rows
     → AllByRecursion (λ row. length (row_bytes profile row) ≤ longest_row profile) rows
@@ -285,7 +313,8 @@ snapshot_len s good =
     let row_count : length s.songs * row ≤ 65536 * row = mul-le-mul_right row good.songs.database.few in
     omega (
       arith,
-      end_len s.profile (head_bytes s ++ parts_bytes s),
+      end_len s.profile s.place (head_bytes s ++ parts_bytes s),
+      end_short s.profile s.place good.place,
       parts_short s row good rows_short row_count,
       longest_is s.profile,
     )

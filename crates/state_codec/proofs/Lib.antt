@@ -8,6 +8,7 @@ pub mod TextLaws
 pub mod TagLaws
 pub mod ToldLaws
 pub mod RowLaws
+pub mod PlaceFields
 pub mod OpLaws
 pub mod BodyLaws
 pub mod EntryLaws
@@ -30,6 +31,7 @@ pub mod BatchSteps
 pub mod Edits
 pub mod Kept
 pub mod KeptLists
+pub mod PlaceLaws
 pub mod KeptOps
 pub mod KeptQueue
 pub mod KeptRows

@@ -5,15 +5,16 @@ use Rattle.std.specs.Prelude.{IsTrue}
 use Rattle.std.specs.List.{AllByRecursion}
 use Rattle.std.specs.Int.{is_in_range}
 use Rattle.std.specs.Str.{is_utf8}
-use Rattle.std.proofs.lemmas.Bool.{eqb-true, eqb-false, leb-true, le-leb}
+use Rattle.std.proofs.lemmas.Bool.{eqb-true, eqb-false, false≢true, leb-true, le-leb}
 use Rattle.profile.specs.declared.profile.Profile.{Profile}
+use Rattle.profile.specs.declared.profile.Profile.TheVariants.{Named, Wide}
 use Rattle.song_db.specs.Uri.{is_uri}
 use Rattle.song_db.specs.declared.change.RowChange.{RowChange}
 use Rattle.song_db.specs.declared.change.RowChange.TheVariants.{Put, Drop}
 use Rattle.stickers.specs.Value.{is_good_value}
 use Rattle.state_codec.specs.declared.layout.Layout.{Layout}
 use Rattle.state_codec.specs.declared.op.Op.{Op}
-use Rattle.state_codec.specs.declared.op.Op.TheVariants.{SetOption, SetVolume, SetOrder, Queue, List as OfList, Sticker, Batch}
+use Rattle.state_codec.specs.declared.op.Op.TheVariants.{SetOption, SetVolume, SetOrder, Queue, List as OfList, Sticker, Batch, Place}
 use Rattle.state_codec.specs.declared.op.setting.Setting.{Setting}
 use Rattle.state_codec.specs.declared.op.setting.Setting.TheVariants as settings
 use Rattle.state_codec.specs.declared.op.queue_op.QueueOp.{QueueOp}
@@ -22,24 +23,28 @@ use Rattle.state_codec.specs.declared.op.list_op.ListOp.{ListOp}
 use Rattle.state_codec.specs.declared.op.list_op.ListOp.TheVariants as lists
 use Rattle.state_codec.specs.declared.op.sticker_op.StickerOp.{StickerOp}
 use Rattle.state_codec.specs.declared.op.sticker_op.StickerOp.TheVariants as stickers
+use Rattle.state_codec.specs.declared.op.place_op.PlaceOp.{PlaceOp}
+use Rattle.state_codec.specs.declared.op.place_op.PlaceOp.TheVariants as places
 use Rattle.state_codec.specs.Changes.{is_count, IsChange, AreChanges, is_kept_change, are_kept}
 use Rattle.state_codec.specs.Fields.{Field, made, such, both, byte_at, u32_at, u64_at, pair_at, volume_at, flag_at, consume_at, single_at}
 use Rattle.state_codec.specs.Fields.{text_at}
 use Rattle.state_codec.specs.Layout.{IsSettingIn, IsOpIn}
 use Rattle.state_codec.specs.Numbers.{MAX_COUNT, AreRowNumbers, AreOpRanges}
-use Rattle.state_codec.specs.Ops.{IsOp, IsKeptOp, AreNumbers, IsQueueOp, IsListOp, IsStickerOp, IsText}
+use Rattle.state_codec.specs.Ops.{IsOp, IsKeptOp, KeepsPlace, AreNumbers, IsQueueOp, IsListOp, IsStickerOp, IsPlaceOp, IsText}
 use Rattle.state_codec.specs.ReadingOps.{setting_at, row_numbers_at, ranges_at, queue_op_at, list_op_at, value_at, sticker_op_at, op_at}
+use Rattle.state_codec.specs.ReadingPlace.{is_place_kind, place_op_at, spot_at}
 use Rattle.state_codec.specs.ReadingRows.{uri_at, row_at, change_at, changes_at}
 use Rattle.state_codec.specs.SavedState.{IsBytes}
 use Rattle.state_codec.specs.SpellingFields.{byte_bytes, u32_bytes, pair_bytes, flag_bytes, single_bytes, text_bytes}
 use Rattle.state_codec.specs.SpellingOps.{setting_bytes, row_numbers_bytes, ranges_bytes, queue_kind, queue_fields, list_kind, list_fields}
-use Rattle.state_codec.specs.SpellingOps.{sticker_kind, sticker_fields, op_bytes}
+use Rattle.state_codec.specs.SpellingOps.{sticker_kind, sticker_fields, place_kind, place_fields, op_bytes}
 use Rattle.state_codec.specs.SpellingRows.{row_bytes, change_bytes, changes_bytes}
 use Rattle.state_codec.specs.Text.{is_text, is_sticker_text}
 use Rattle.state_codec.proofs.FieldLaws.{bind_ok, ok_is, both_true, Takes, Takes-then, IsField, Any, both_is, such_is, fits_is, byte_is}
 use Rattle.state_codec.proofs.FieldLaws.{u32_is, u64_is, volume_is, flag_is, IsConsume, consume_is, single_is, text_is}
 use Rattle.state_codec.proofs.ItemLaws.{counted_is, alone_is}
 use Rattle.state_codec.proofs.ListLaws.{all_by, by_all}
+use Rattle.state_codec.proofs.PlaceFields.{IsSpot, spot_reads, spot_text}
 use Rattle.state_codec.proofs.RowLaws.{row_is}
 use Rattle.state_codec.proofs.TextLaws.{uri_is}
 
@@ -385,6 +390,33 @@ sticker_takes kind bytes y low high fits e =
           ]
     ]
 
+place_takes : (kind : ℕ) (bytes : List ℕ) (y : PlaceOp × List ℕ) → 22 ≤ kind → kind ≤ 25 → IsBytes bytes → place_op_at kind bytes ≡ Ok y
+    → IsKind place_kind place_fields IsPlaceOp kind bytes y
+unfolding place_op_at
+place_takes kind bytes y low high fits e =
+    elim (chosen (eqb kind 22) _ _ (Ok y) e) [
+      | inl h ↦ at_kind place_kind place_fields IsPlaceOp 22 kind bytes y h.0
+          (variant (λ x. places.Put x.0 x.1.0 x.1.1) place_kind place_fields IsPlaceOp 22 (λ bytes. spot_at bytes) spot_text IsSpot
+          spot_reads (λ a h. (refl, refl, h.1)) bytes y fits h.1)
+      | inr n22 ↦
+          elim (chosen (eqb kind 23) _ _ (Ok y) n22.1) [
+            | inl h ↦ at_kind place_kind place_fields IsPlaceOp 23 kind bytes y h.0
+                (variant places.Played place_kind place_fields IsPlaceOp 23 (λ bytes. u32_at bytes) (λ n. u32_bytes n) (λ n. n < 2 ^ 32)
+                u32_is (λ a h. (refl, refl, h)) bytes y fits h.1)
+            | inr n23 ↦
+                elim (chosen (eqb kind 24) _ _ (Ok y) n23.1) [
+                  | inl h ↦ at_kind place_kind place_fields IsPlaceOp 24 kind bytes y h.0
+                      (subst (IsKind place_kind place_fields IsPlaceOp 24 bytes) (ok_is (places.Begins, bytes) y h.1)
+                      (record { taken = record { parts = refl; rest_fits = fits }; named = refl; good = tt }))
+                  | inr n24 ↦
+                      let is : kind ≡ 25 = omega (arith, eqb-false _ _ n22.0, eqb-false _ _ n23.0, eqb-false _ _ n24.0) in
+                      subst (λ (k : ℕ). IsKind place_kind place_fields IsPlaceOp k bytes y) (sym is)
+                      (variant places.Leaves place_kind place_fields IsPlaceOp 25 (λ bytes. u32_at bytes) (λ n. u32_bytes n)
+                      (λ n. n < 2 ^ 32) u32_is (λ a h. (refl, refl, h)) bytes y fits n24.1)
+                ]
+          ]
+    ]
+
 queue_again : (op : QueueOp) (rest : List ℕ) → IsQueueOp op → queue_op_at (queue_kind op) (queue_fields op ++ rest) ≡ Ok (op, rest)
 unfolding queue_op_at
 queue_again (queue.Add at rows) rest good = ap (made (λ x. queue.Add x.0 x.1)) (add_is.again (at, rows) rest good)
@@ -413,6 +445,14 @@ sticker_again (stickers.Set uri name value) rest good =
     ap (made (λ x. stickers.Set x.0 x.1.0 x.1.1)) (set_is.again (uri, (name, value)) rest good)
 sticker_again (stickers.Delete uri name) rest good = ap (made (λ x. stickers.Delete x.0 x.1)) (delete_is.again (uri, name) rest good)
 sticker_again (stickers.DeleteAll uri) rest good = ap (made stickers.DeleteAll) (uri_is.again uri rest good)
+
+place_again : (op : PlaceOp) (rest : List ℕ) → IsPlaceOp op → place_op_at (place_kind op) (place_fields op ++ rest) ≡ Ok (op, rest)
+unfolding place_op_at
+place_again (places.Put state song frame) rest good =
+    ap (made (λ x. places.Put x.0 x.1.0 x.1.1)) (spot_reads.again (state, (song, frame)) rest (tt, good))
+place_again (places.Played id) rest good = ap (made places.Played) (u32_is.again id rest good)
+place_again places.Begins rest good = refl
+place_again (places.Leaves id) rest good = ap (made places.Leaves) (u32_is.again id rest good)
 
 -- ---- an op
 
@@ -455,6 +495,11 @@ of_family layout f kind_of fields Good found bytes rest field front takes spelle
 within : (low high n : ℕ) → is_in_range low high n ≡ true → (low ≤ n) × (n ≤ high)
 within low high n h = let b = both_true (leb low n) (leb n high) h in (leb-true _ _ b.0, leb-true _ _ b.1)
 
+-- the wide profile alone has ops on the place
+place_within : (profile : Profile) (n : ℕ) → is_place_kind profile n ≡ true → (22 ≤ n) × ((n ≤ 25) × KeepsPlace profile)
+place_within Named n h = absurd (false≢true h)
+place_within Wide n h = let r = within 22 25 n h in (r.0, (r.1, tt))
+
 pub op_takes : (layout : Layout) (bytes : List ℕ) (y : Op × List ℕ) → IsBytes bytes → op_at layout bytes ≡ Ok y
     → Takes bytes (op_bytes layout.profile y.0) y.1 × IsReadOp layout y.0
 unfolding op_at
@@ -485,7 +530,12 @@ op_takes layout bytes y fits e =
                 | inr n6 ↦ elim (chosen (eqb k 20) _ _ (Ok y) n6.1) [
                   | inl h ↦ alone layout Batch 20 k bytes rest (λ s. changes_at layout.profile s) _ _ (changes_is layout.profile) front h.0 (λ a. refl)
                       (λ a g. (g.0, (tt, g.1))) y h.1
-                  | inr n7 ↦ let h = n7.1 in absurd cc
+                  | inr n7 ↦ elim (chosen (is_place_kind layout.profile k) _ _ (Ok y) n7.1) [
+                    | inl h ↦ let r = place_within layout.profile k h.0 in of_family layout Place place_kind place_fields IsPlaceOp k bytes
+                        rest (place_op_at k rest) front (λ z f. place_takes k rest z r.0 r.1.0 front.rest_fits f) (λ a. refl)
+                        (λ a g. (g, (tt, r.1.1))) y h.1
+                    | inr n8 ↦ let h = n8.1 in absurd cc
+                  ]
                 ]
               ]
             ]
@@ -522,6 +572,15 @@ sticker_kinds layout (stickers.Set uri name value) rest = refl
 sticker_kinds layout (stickers.Delete uri name) rest = refl
 sticker_kinds layout (stickers.DeleteAll uri) rest = refl
 
+place_kinds : (layout : Layout) (profile : Profile) → layout.profile ≡ profile → KeepsPlace profile → (op : PlaceOp) (rest : List ℕ)
+    → op_at layout (place_kind op ∷ rest) ≡ made Place (place_op_at (place_kind op) rest)
+unfolding op_at
+place_kinds layout Named is none op rest = absurd none
+place_kinds layout Wide is keeps (places.Put state song frame) rest = rw is refl
+place_kinds layout Wide is keeps (places.Played id) rest = rw is refl
+place_kinds layout Wide is keeps places.Begins rest = rw is refl
+place_kinds layout Wide is keeps (places.Leaves id) rest = rw is refl
+
 pub op_again : (layout : Layout) (op : Op) (rest : List ℕ) → IsOp op → IsOpIn layout op → IsKeptOp layout.profile op
     → op_at layout (op_bytes layout.profile op ++ rest) ≡ Ok (op, rest)
 unfolding op_at
@@ -534,6 +593,8 @@ op_again layout (OfList op) rest good in_layout kept = list_kinds layout op (lis
 op_again layout (Sticker op) rest good in_layout kept = sticker_kinds layout op (sticker_fields op ++ rest)
     ∙ ap (made Sticker) (sticker_again op rest good)
 op_again layout (Batch changes) rest good in_layout kept = ap (made Batch) ((changes_is layout.profile).again changes rest (good, kept))
+op_again layout (Place op) rest good in_layout kept = place_kinds layout layout.profile refl kept op (place_fields op ++ rest)
+    ∙ ap (made Place) (place_again op rest good)
 
 -- an op takes a byte at least
 pub op_spelled : (profile : Profile) (op : Op) → 1 ≤ length (op_bytes profile op)
@@ -544,3 +605,4 @@ op_spelled profile (Queue op) = omega arith
 op_spelled profile (OfList op) = omega arith
 op_spelled profile (Sticker op) = omega arith
 op_spelled profile (Batch changes) = omega arith
+op_spelled profile (Place op) = omega arith

@@ -1,11 +1,14 @@
 -- A snapshot that is handed over in pieces.
+use Rattle.std.proofs.Common.{Option, Some, None}
 use Rattle.std.proofs.Common.{◌≡◌, ℕ, ◌+◌, ◌≤◌, List, [], ◌∷◌, ◌++◌, length, fold, bit_xor, vec_capacity, append_assoc, refl, sym, ap, ◌∙◌, arith}
 use Rattle.std.specs.Prelude.{IsTrue}
 use Rattle.std.specs.Global.{Vec}
 use Rattle.std.specs.List.{AllByRecursion, flat_map}
+use Rattle.std.specs.Option.{option_map_or}
 use Rattle.std.proofs.lemmas.List.{length-append}
 use Rattle.std.proofs.lemmas.List.Concat.{flat_map-cons}
 use Rattle.std.proofs.lemmas.List.Sums.{sum_by-cons}
+use Rattle.player_core.specs.Place.{PlaceState}
 use Rattle.profile.specs.declared.profile.Profile.{Profile}
 use Rattle.profile.specs.declared.profile.Profile.TheVariants.{Named, Wide}
 use Rattle.song_db.specs.Row.{is_kept_by}
@@ -20,10 +23,11 @@ use Rattle.state_codec.specs.Longest.{longest_row}
 use Rattle.state_codec.specs.Pieces.{HadNone, HandsOver, IsListItem, IsStickerItem, longest_item, sealed_from}
 use Rattle.state_codec.specs.SavedState.{SavedState, IsSavedState}
 use Rattle.state_codec.specs.Sealed.{sealed}
-use Rattle.state_codec.specs.Spelling.{with_fields}
-use Rattle.state_codec.specs.SpellingFields.{byte_bytes, u32_bytes}
+use Rattle.state_codec.specs.Spelling.{entry_bytes, head_bytes, parts_bytes, playlist_bytes, sticker_bytes, with_fields}
+use Rattle.state_codec.specs.SpellingFields.{list_bytes, u32_bytes}
+use Rattle.state_codec.specs.SpellingPlace.{place_bytes, place_head}
 use Rattle.state_codec.specs.SpellingRows.{row_bytes}
-use Rattle.state_codec.proofs.LengthLaws.{rows_len, name_len, sticker_len}
+use Rattle.state_codec.proofs.LengthLaws.{fields_behind, fields_told, rows_len, name_len, sticker_len}
 use Rattle.state_codec.proofs.Rising.{all_in_turn, all_weaker}
 use Rattle.state_codec.proofs.SnapshotLaws.{short_sticker}
 
@@ -114,32 +118,47 @@ fold_on : (start : ℕ) (xs ys : List ℕ) → fold with_byte start (xs ++ ys) �
 fold_on start [] ys = refl
 fold_on start (x ∷ xs) ys = fold_on (with_byte start x) xs ys
 
-pub begins_sealed : (profile : Profile) (bytes : List ℕ)
-    → sealed_from profile ONES (with_fields profile bytes) ≡ sealed profile (with_fields profile bytes)
+pub begins_sealed : (profile : Profile) (bytes : List ℕ) → sealed_from profile ONES bytes ≡ sealed profile bytes
 begins_sealed Named bytes = refl
 begins_sealed Wide bytes = refl
 
 pub goes_on_sealed : (profile : Profile) (sum next : ℕ) (piece rest : List ℕ) → (profile ≡ Named → next ≡ sum)
     → (profile ≡ Wide → next ≡ fold with_byte sum piece)
-    → sealed_from profile sum (with_fields profile (piece ++ rest)) ≡ piece ++ sealed_from profile next (with_fields profile rest)
+    → sealed_from profile sum (piece ++ rest) ≡ piece ++ sealed_from profile next rest
 goes_on_sealed Named sum next piece rest named wide = refl
 goes_on_sealed Wide sum next piece rest named wide =
-    let field = byte_bytes 0 in
-    let all : (piece ++ rest) ++ field ≡ piece ++ (rest ++ field) = append_assoc piece rest field in
     let told : List ℕ → List ℕ = λ bytes. u32_bytes (bit_xor (fold with_byte sum bytes) ONES) in
-    let folded : fold with_byte sum (piece ++ (rest ++ field)) ≡ fold with_byte next (rest ++ field) =
-    fold_on sum piece (rest ++ field) ∙ ap (λ (n : ℕ). fold with_byte n (rest ++ field)) (sym (wide refl)) in
-    ap (λ (l : List ℕ). l ++ told l) all
-    ∙ append_assoc piece (rest ++ field) (told (piece ++ (rest ++ field)))
-    ∙ ap (λ (n : ℕ). piece ++ ((rest ++ field) ++ u32_bytes (bit_xor n ONES))) folded
+    let folded : fold with_byte sum (piece ++ rest) ≡ fold with_byte next rest =
+    fold_on sum piece rest ∙ ap (λ (n : ℕ). fold with_byte n rest) (sym (wide refl)) in
+    append_assoc piece rest (told (piece ++ rest)) ∙ ap (λ (n : ℕ). piece ++ (rest ++ u32_bytes (bit_xor n ONES))) folded
 
-pub sealed_fits : (profile : Profile) (sum : ℕ) (bytes : List ℕ)
-    → length (sealed_from profile sum (with_fields profile bytes)) ≤ length bytes + 5
+pub sealed_fits : (profile : Profile) (sum : ℕ) (bytes : List ℕ) → length (sealed_from profile sum bytes) ≤ length bytes + 4
 sealed_fits Named sum bytes = omega arith
-sealed_fits Wide sum bytes =
-    let all = bytes ++ byte_bytes 0 in
-    omega (
-      arith,
-      length-append all (u32_bytes (bit_xor (fold with_byte sum all) ONES)),
-      length-append bytes (byte_bytes 0),
-    )
+sealed_fits Wide sum bytes = omega (arith, length-append bytes (u32_bytes (bit_xor (fold with_byte sum bytes) ONES)))
+
+-- ---- the parts and the fields, one behind the other
+
+place_parts : (place : Option PlaceState)
+    → option_map_or place_bytes place [] ≡ option_map_or place_head place [] ++ option_map_or (λ (p : PlaceState). flat_map u32_bytes p.played) place []
+place_parts None = refl
+place_parts (Some place) = refl
+
+in_a_row : (head rows entries lists stickers fields : List ℕ)
+    → head ++ (rows ++ (entries ++ (lists ++ (stickers ++ fields)))) ≡ (head ++ (rows ++ (entries ++ (lists ++ stickers)))) ++ fields
+in_a_row head rows entries lists stickers fields = simp append_assoc
+
+pub parts_left : (s : SavedState) → IsSavedState s
+    → head_bytes s
+    ++ (list_bytes (row_bytes s.profile) s.songs
+    ++ (list_bytes (entry_bytes s.songs) s.queue.entries
+    ++ (list_bytes playlist_bytes s.lists
+    ++ (list_bytes sticker_bytes s.stickers
+    ++ (option_map_or place_head s.place [] ++ option_map_or (λ (p : PlaceState). flat_map u32_bytes p.played) s.place [])))))
+    ≡ with_fields s.profile s.place (head_bytes s ++ parts_bytes s)
+parts_left s saved =
+    let fields = option_map_or place_head s.place [] ++ option_map_or (λ (p : PlaceState). flat_map u32_bytes p.played) s.place [] in
+    let text = head_bytes s ++ parts_bytes s in
+    in_a_row (head_bytes s) (list_bytes (row_bytes s.profile) s.songs) (list_bytes (entry_bytes s.songs) s.queue.entries)
+    (list_bytes playlist_bytes s.lists) (list_bytes sticker_bytes s.stickers) fields
+    ∙ ap (λ (l : List ℕ). text ++ l) (sym (fields_told s.profile s.place saved.place ∙ place_parts s.place))
+    ∙ sym (fields_behind s.profile s.place text)

@@ -1,22 +1,26 @@
 -- Which ops of the queue leave a state as it is, and what the version tells.
 use Rattle.std.proofs.Common.{◌≡◌, ℕ, ◌+◌, ◌↔◌, Bool, true, false, cond, ◌==◌, ◌&&◌, List, [], ◌∷◌, ◌++◌, length, map, take, drop}
-use Rattle.std.proofs.Common.{None, refl, sym, ap, ◌∙◌, arith}
+use Rattle.std.proofs.Common.{Option, None, refl, sym, ap, ◌∙◌, arith}
 use Rattle.std.proofs.lemmas.Bool.{eqb-true, eq-eqb}
-use Rattle.std.proofs.lemmas.List.{length-append, take-append-drop}
+use Rattle.std.proofs.lemmas.List.{length-append, length-drop, length-take-le, take-append-drop}
 use Rattle.play_queue.specs.declared.entry.Entry.{Entry}
-use Rattle.play_queue.specs.Entries.{Uris, added, new_entries}
+use Rattle.play_queue.specs.Entries.{Uris, added, deleted, new_entries}
 use Rattle.play_queue.specs.Limits.{MAX_VERSION}
 use Rattle.play_queue.specs.Queue.{QueueState, is_same, is_unchanged, with_stamp, stamped, ruled}
 use Rattle.play_queue.proofs.Ruling.{is_same-itself, ruled-itself}
 use Rattle.play_queue.proofs.Versions.{tells_changes}
+use Rattle.player_core.specs.Place.{PlaceState, place_left}
 use Rattle.player_core.specs.Words.{next_order}
-use Rattle.state_codec.specs.OpsQueue.{queue_refusal, with_added, after_queue, leaves_queue}
+use Rattle.std.specs.Option.{option_map}
+use Rattle.state_codec.specs.Laws.{but_place}
+use Rattle.state_codec.specs.OpsQueue.{queue_refusal, with_added, after_queue, leaves_queue, range}
 use Rattle.state_codec.specs.OpsSongs.{have_rows, uris_at}
 use Rattle.state_codec.specs.SavedState.{SavedState}
 use Rattle.state_codec.specs.declared.op.queue_op.QueueOp.{QueueOp}
 use Rattle.state_codec.specs.declared.op.queue_op.QueueOp.TheVariants.{Add, Delete, Move, Swap, Shuffle, Prio}
 use Rattle.state_codec.proofs.Edits.{length-uris_at}
-use Rattle.state_codec.proofs.KeptOps.{named_none}
+use Rattle.state_codec.proofs.KeptOps.{map_none, named_none, range_within}
+use Rattle.state_codec.proofs.PlaceLaws.{left_stays_place, none_between}
 use Rattle.state_codec.proofs.Unchanged.{same_length}
 
 -- a queue in which nothing has changed
@@ -41,14 +45,36 @@ added_none q at =
 no_rows : (n : ℕ) (rows : List ℕ) → (length (n ∷ rows) == 0) ≡ true → ⊥
 no_rows n rows none = let long : length (n ∷ rows) ≡ 0 = eqb-true (length (n ∷ rows)) 0 none in omega arith
 
-pub queue_stays : (op : QueueOp) (s : SavedState) → leaves_queue op s ≡ true → after_queue op s ≡ s
-queue_stays (Add at []) s same = same_queue s (with_added s.queue at []) (added_none s.queue at)
-queue_stays (Add at (n ∷ rows)) s same = absurd (no_rows n rows same)
-queue_stays (Delete start end) s same = same_queue s _ (ruled_unchanged s.queue _ [] same)
-queue_stays (Move start end to) s same = same_queue s _ (ruled_unchanged s.queue _ [] same)
-queue_stays (Swap one other) s same = same_queue s _ (ruled_unchanged s.queue _ [] same)
-queue_stays (Shuffle start end) s same = absurd (cc)
-queue_stays (Prio priority ranges) s same = same_queue s _ (ruled_unchanged s.queue _ [] same)
+-- an empty range is deleted
+deleted_none : (s : SavedState) (start end : ℕ) → queue_refusal (Delete start end) s ≡ None → leaves_queue (Delete start end) s ≡ true
+    → after_queue (Delete start end) s ≡ s
+deleted_none s start end none same =
+    let entries = s.queue.entries in
+    let within = range_within entries start end (map_none _ _ none) in
+    let long : length entries ≡ length (deleted entries start end) = same_length [] entries (deleted entries start end) same in
+    let empty : start ≡ end = omega (
+      arith,
+      within.0,
+      within.1,
+      long,
+      length-append (take start entries) (drop end entries),
+      length-take-le start entries (omega (arith, within.0, within.1)),
+      length-drop end entries,
+    ) in
+    let place : option_map (place_left (range start end) [] entries) s.place ≡ s.place =
+    ap (λ n. option_map (place_left (range start n) [] entries) s.place) (sym empty)
+    ∙ left_stays_place (range start start) [] entries s.place (none_between start entries) in
+    let queue : ruled s.queue (deleted entries start end) [] ≡ s.queue = ruled_unchanged s.queue _ [] same in
+    λ i. record s { queue = queue i; place = place i }
+
+pub queue_stays : (op : QueueOp) (s : SavedState) → queue_refusal op s ≡ None → leaves_queue op s ≡ true → after_queue op s ≡ s
+queue_stays (Add at []) s none same = same_queue s (with_added s.queue at []) (added_none s.queue at)
+queue_stays (Add at (n ∷ rows)) s none same = absurd (no_rows n rows same)
+queue_stays (Delete start end) s none same = deleted_none s start end none same
+queue_stays (Move start end to) s none same = same_queue s _ (ruled_unchanged s.queue _ [] same)
+queue_stays (Swap one other) s none same = same_queue s _ (ruled_unchanged s.queue _ [] same)
+queue_stays (Shuffle start end) s none same = absurd (cc)
+queue_stays (Prio priority ranges) s none same = same_queue s _ (ruled_unchanged s.queue _ [] same)
 
 -- the order number after one is another one
 next_other : (order : ℕ) → next_order order ≡ order → ⊥
@@ -58,16 +84,21 @@ next_other order same = of (order == 18446744073709551615) refl same
     of true last same = omega (arith, eqb-true order 18446744073709551615 last)
     of false other same = omega arith
 
-pub queue_only : (op : QueueOp) (s : SavedState) → queue_refusal op s ≡ None → after_queue op s ≡ s → leaves_queue op s ≡ true
-queue_only (Add at rows) s none same =
+-- where it changes nothing but perhaps the player's place
+pub queue_apart : (op : QueueOp) (place : Option PlaceState) (s : SavedState) → queue_refusal op s ≡ None
+    → after_queue op s ≡ but_place place s → leaves_queue op s ≡ true
+queue_apart (Add at rows) place s none same =
     let named : have_rows s.songs rows ≡ true = (named_none (have_rows s.songs rows) _ none).0 in
     let next : s.queue.next_id + length (uris_at s.songs rows) ≡ s.queue.next_id = ap (λ (t : SavedState). t.queue.next_id) same in
     eq-eqb (length rows) 0 (omega (arith, length-uris_at s.songs rows named))
-queue_only (Delete start end) s none same = version_tells s.queue _ [] (ap (λ (t : SavedState). t.queue.version) same)
-queue_only (Move start end to) s none same = version_tells s.queue _ [] (ap (λ (t : SavedState). t.queue.version) same)
-queue_only (Swap one other) s none same = version_tells s.queue _ [] (ap (λ (t : SavedState). t.queue.version) same)
-queue_only (Shuffle start end) s none same = absurd (next_other s.order (ap (λ (t : SavedState). t.order) same))
-queue_only (Prio priority ranges) s none same = version_tells s.queue _ [] (ap (λ (t : SavedState). t.queue.version) same)
+queue_apart (Delete start end) place s none same = version_tells s.queue _ [] (ap (λ (t : SavedState). t.queue.version) same)
+queue_apart (Move start end to) place s none same = version_tells s.queue _ [] (ap (λ (t : SavedState). t.queue.version) same)
+queue_apart (Swap one other) place s none same = version_tells s.queue _ [] (ap (λ (t : SavedState). t.queue.version) same)
+queue_apart (Shuffle start end) place s none same = absurd (next_other s.order (ap (λ (t : SavedState). t.order) same))
+queue_apart (Prio priority ranges) place s none same = version_tells s.queue _ [] (ap (λ (t : SavedState). t.queue.version) same)
+
+pub queue_only : (op : QueueOp) (s : SavedState) → queue_refusal op s ≡ None → after_queue op s ≡ s → leaves_queue op s ≡ true
+queue_only op s none same = queue_apart op s.place s none same
 
 length-new_entries : (first : ℕ) (uris : Uris) → length (new_entries first uris) ≡ length uris
 length-new_entries first [] = refl

@@ -1,5 +1,6 @@
 -- How many bytes lists of numbers take, and how many channels a row has.
-use Rattle.std.proofs.Common.{◌≡◌, ℕ, ◌+◌, ◌*◌, ◌<◌, ◌≤◌, true, leb, List, [], ◌∷◌, ◌++◌, length, take, get_or, refl, sym, ap, ◌∙◌, arith}
+use Rattle.std.proofs.Common.{◌≡◌, ℕ, ◌+◌, ◌*◌, ◌<◌, ◌≤◌, true, leb, List, [], ◌∷◌, ◌++◌, length, take, get_or, refl, sym, ap, ◌∙◌, append_assoc, arith}
+use Rattle.std.specs.Global.{Vec}
 use Rattle.std.specs.List.{flat_map}
 use Rattle.std.proofs.lemmas.Bool.{leb-true}
 use Rattle.std.proofs.lemmas.List.{length-append, flat_map_more, take_more}
@@ -7,6 +8,7 @@ use Rattle.std.proofs.lemmas.List.Concat.{flat_map-cons}
 use Rattle.wave_pcm.specs.Limits.{MAX_RATE}
 use Rattle.song_db.specs.Row.{Row, is_row}
 use Rattle.song_db.specs.Uri.{is_uri}
+use Rattle.state_codec.specs.Appended.{HasRoom, Appends}
 use Rattle.state_codec.specs.SpellingFields.{u32_bytes, pair_bytes}
 use Rattle.state_codec.proofs.FieldLaws.{both_true}
 
@@ -44,3 +46,29 @@ few_channels row h =
     let b = both_true (leb row.rate MAX_RATE) _ a.1 in
     let c = both_true (leb 1 row.channels) _ b.1 in
     leb-true _ _ (both_true (leb row.channels 2) _ c.1).0
+
+-- ---- one text behind the other
+
+pub appends_both : (before between after : Vec ℕ) (x y : List ℕ) → Appends before between x → Appends between after y
+    → Appends before after (x ++ y)
+appends_both before between after x y first second = record {
+  items = second.items ∙ ap (λ (l : List ℕ). l ++ y) first.items ∙ append_assoc before.items x y;
+  capacity = second.capacity ∙ first.capacity;
+}
+
+pub room_first : (out : Vec ℕ) (x y : List ℕ) → HasRoom out (length (x ++ y)) → HasRoom out (length x)
+room_first out x y room = omega (arith, room, length-append x y)
+
+pub room_behind : (before after : Vec ℕ) (x y : List ℕ) → HasRoom before (length (x ++ y)) → Appends before after x
+    → HasRoom after (length y)
+room_behind before after x y room first =
+    omega (
+      arith,
+      room,
+      first.capacity,
+      ap length first.items,
+      length-append before.items x,
+      length-append x y,
+      before.ok.0,
+      after.ok.0,
+    )

@@ -4,7 +4,8 @@ use Rattle.std.proofs.Common.{Option, Some, None, is_some, refl, sym, ap, ◌∙
 use Rattle.std.specs.List.{All, AllByRecursion, list_any}
 use Rattle.std.specs.Str.{bytes_eq}
 use Rattle.std.proofs.lemmas.Slice.Eq.{bytes_eq-Decides}
-use Rattle.std.proofs.lemmas.List.Elements.{All-head, All-tail}
+use Rattle.std.proofs.lemmas.List.Elements.{All-head, All-tail, All-weaker}
+use Rattle.player_core.specs.Place.{PlaceState, place_left}
 use Rattle.play_queue.specs.declared.entry.Entry.{Entry}
 use Rattle.play_queue.specs.Entries.{Uris, is_among, kept}
 use Rattle.play_queue.specs.Queue.{QueueState, is_same, is_unchanged, ruled}
@@ -24,7 +25,8 @@ use Rattle.state_codec.specs.declared.refusal.OpRefusal.TheVariants.{Songs}
 use Rattle.state_codec.specs.Laws.{LeaveRows}
 use Rattle.state_codec.specs.RowSteps.{row_left}
 use Rattle.state_codec.specs.Changes.{are_kept}
-use Rattle.state_codec.specs.OpsRows.{rows_refusal, changed_uris, without_songs, with_batch, after_rows, leaves_rows}
+use Rattle.state_codec.proofs.PlaceLaws.{left_stays_place, none_dropped}
+use Rattle.state_codec.specs.OpsRows.{no_range, rows_refusal, changed_uris, without_songs, with_batch, after_rows, leaves_rows}
 use Rattle.state_codec.specs.SavedState.{SavedState, IsSavedState, IsSavedEntry, IsSavedSticker}
 use Rattle.state_codec.proofs.BatchFollowed.{changed_among}
 use Rattle.state_codec.proofs.BatchRows.{AllFit, row_after}
@@ -142,15 +144,26 @@ unchanged_all rows changed (entry ∷ entries) apart all =
     ∙ is_same-itself entry in
     rw here (unchanged_all rows changed entries apart (All-tail (IsSavedEntry rows) entry entries all))
 
+-- the place after a batch
+abbrev place_behind : List RowChange → SavedState → Option PlaceState
+place_behind changes s = option_map (place_left no_range (drops_of changes) s.queue.entries) s.place
+
 pub batch_stays : (changes : List RowChange) (s : SavedState) → IsSavedState s → leaves_rows changes s ≡ true → after_rows changes s ≡ s
 batch_stays changes s saved same =
     ap (λ rs. record s {
       songs = rs;
       queue = with_batch s.queue (drops_of changes) (changed_uris s.songs rs);
       stickers = without_songs s.stickers (drops_of changes);
+      place = place_behind changes s;
     }) songs
-    ∙ ap (λ (q : QueueState). record s { queue = q; stickers = without_songs s.stickers (drops_of changes) }) queue
-    ∙ ap (λ (l : List Sticker). record s { stickers = l }) (stickers_all s.songs (drops_of changes) s.stickers apart saved.stickers.each)
+    ∙ ap (λ (q : QueueState). record s {
+      queue = q;
+      stickers = without_songs s.stickers (drops_of changes);
+      place = place_behind changes s;
+    }) queue
+    ∙ ap (λ (l : List Sticker). record s { stickers = l; place = place_behind changes s })
+    (stickers_all s.songs (drops_of changes) s.stickers apart saved.stickers.each)
+    ∙ ap (λ (p : Option PlaceState). record s { place = p }) place
   where
     none : ChangeNone s.songs changes
     none = not_true _ same
@@ -160,6 +173,13 @@ batch_stays changes s saved same =
 
     apart : (uri : List ℕ) → has_uri s.songs uri ≡ true → is_among (drops_of changes) uri ≡ false
     apart uri there = drops_absent s.songs changes uri saved.songs.database none there
+
+    place : place_behind changes s ≡ s.place
+    place =
+        left_stays_place no_range (drops_of changes) s.queue.entries s.place
+        (none_dropped (drops_of changes) s.queue.entries
+        (All-weaker (IsSavedEntry s.songs) (λ (entry : Entry). is_among (drops_of changes) entry.uri ≡ false)
+        (λ entry is. apart entry.uri is.has_row) s.queue.entries saved.queue.entries))
 
     same_rows : (uri : List ℕ) → has_uri s.songs uri ≡ true → is_among (changed_uris s.songs s.songs) uri ≡ false
     same_rows uri there = sym (changed_among s.songs [] uri saved.songs.database there refl)

@@ -1,10 +1,11 @@
 -- A snapshot that is read is spelled so, and what is spelled so is read.
 use Rattle.std.proofs.Common.{◌≡◌, ℕ, ◌+◌, ◌^◌, ◌<◌, ◌≤◌, Bool, true, false, cond, eqb, List, [], ◌++◌, length, Result, Ok, Err, refl, sym, ap, subst, ◌∙◌}
-use Rattle.std.proofs.Common.{append_assoc, arith}
-use Rattle.std.specs.Prelude.{IfOk}
+use Rattle.std.proofs.Common.{Option, Some, None, append_assoc, arith}
+use Rattle.std.specs.Prelude.{IfOk, unwrap_or}
 use Rattle.std.proofs.lemmas.Bool.{eqb-true}
 use Rattle.std.proofs.lemmas.List.{append-nil, nil_from_length}
 use Rattle.play_queue.specs.Limits.{MAX_ID, MAX_VERSION}
+use Rattle.player_core.specs.Place.{PlaceState, no_place}
 use Rattle.player_core.specs.declared.options.Options.{Options}
 use Rattle.profile.specs.declared.profile.Profile.{Profile}
 use Rattle.profile.specs.declared.profile.Profile.TheVariants.{Named, Wide}
@@ -12,25 +13,28 @@ use Rattle.state_codec.specs.declared.layout.Layout.{Layout}
 use Rattle.state_codec.specs.declared.refusal.CodecError.{CodecError}
 use Rattle.state_codec.specs.declared.reading.saved.Header.{Header}
 use Rattle.state_codec.specs.Answers.{GivesSaved}
-use Rattle.state_codec.specs.Fields.{Field, such, byte_at, u64_at, number_within, volume_at, flag_at, consume_at, single_at, key_at}
+use Rattle.state_codec.specs.Fields.{Field, u64_at, number_within, volume_at, flag_at, consume_at, single_at, key_at}
 use Rattle.state_codec.specs.Layout.{layout_1, layout_2, layout_3, layout_of, written_layout, is_consume, IsLayout, IsStateIn}
 use Rattle.state_codec.specs.Reading.{alone, in_bytes, front_state, saved_reading, saved_reading_in}
 use Rattle.state_codec.specs.ReadingSaved.{options_at, songs_at, entries_at, lists_at, stickers_at, header_at, parts_at, saved_at}
 use Rattle.state_codec.specs.ReadingSaved.{before_fields}
-use Rattle.state_codec.specs.SavedState.{SavedState, IsSavedState, AreKeptSongs, IsBytes, key_len}
+use Rattle.state_codec.specs.SavedState.{SavedState, IsSavedState, IsSavedPlace, AreKeptSongs, IsBytes, key_len}
+use Rattle.state_codec.specs.ReadingPlace.{place_at}
 use Rattle.state_codec.specs.Sealed.{sealed, unsealed}
 use Rattle.state_codec.specs.Spelling.{options_bytes, entry_bytes, playlist_bytes, sticker_bytes, head_bytes, parts_bytes, saved_bytes}
 use Rattle.state_codec.specs.Spelling.{with_fields}
 use Rattle.state_codec.specs.SpellingFields.{byte_bytes, u32_bytes, u64_bytes, flag_bytes, single_bytes, list_bytes}
+use Rattle.state_codec.specs.SpellingPlace.{place_bytes}
 use Rattle.state_codec.specs.SpellingRows.{row_bytes}
 use Rattle.state_codec.specs.Steps.{◌>>=◌}
 use Rattle.state_codec.proofs.FieldLaws.{bind_ok, ok_is, passed_ok, Takes, Takes-then, u64_is, within_is, flag_is, single_is, volume_is}
-use Rattle.state_codec.proofs.FieldLaws.{IsField, such_is, byte_is, key_is, consume_is, consume_written}
+use Rattle.state_codec.proofs.FieldLaws.{key_is, consume_is, consume_written}
 use Rattle.state_codec.proofs.SealedLaws.{unseals, seals, front_fits}
 use Rattle.state_codec.proofs.SongsLaws.{songs_is}
 use Rattle.state_codec.proofs.EntriesLaws.{entries_is}
 use Rattle.state_codec.proofs.PlaylistsLaws.{lists_is}
 use Rattle.state_codec.proofs.StickersLaws.{stickers_is}
+use Rattle.state_codec.proofs.PlaceFields.{place_is}
 
 -- ---- options
 
@@ -168,9 +172,18 @@ header_of s = record {
       s.options;
 }
 
+abbrev put_place : Option PlaceState → SavedState → SavedState
+put_place place s = record s { place = place }
+
+-- a state in all but its place, which isn't known yet
+record IsButPlace (layout : Layout) (s : SavedState) : Type 0 where
+  none : s.place ≡ None
+  with_place : (place : Option PlaceState) → IsSavedPlace layout.profile place
+      → IsSavedState (put_place place s) × IsStateIn layout (put_place place s)
+
 parts_take : (layout : Layout) → IsLayout layout → (h : Header) (bytes : List ℕ) (x : SavedState × List ℕ) → IsHeader layout h
     → IsBytes bytes → parts_at layout h bytes ≡ Ok x
-    → Takes bytes (parts_bytes x.0) x.1 × ((IsSavedState x.0 × IsStateIn layout x.0) × (header_of x.0 ≡ h))
+    → Takes bytes (parts_bytes x.0) x.1 × (IsButPlace layout x.0 × (header_of x.0 ≡ h))
 unfolding parts_at
 parts_take layout form h bytes x header fits e =
     let songs = bind_ok (songs_at layout.profile bytes) _ x e in
@@ -194,6 +207,7 @@ parts_take layout form h bytes x header fits e =
       queue = record { entries = entries.0.0; version = h.version; next_id = h.next_id };
       lists = lists.0.0;
       stickers = stickers.0.0;
+      place = None;
     } in
     let rows_text = list_bytes (row_bytes s.profile) s.songs in
     let entries_text = list_bytes (entry_bytes s.songs) s.queue.entries in
@@ -203,7 +217,7 @@ parts_take layout form h bytes x header fits e =
     let j1 = Takes-then songs.0.1 entries_text entries.0.1 (lists_text ++ stickers_text) end t1.0 j2 in
     let j0 : Takes bytes (parts_bytes s) end =
     Takes-then bytes rows_text songs.0.1 (entries_text ++ (lists_text ++ stickers_text)) end t0.0 j1 in
-    let good : IsSavedState s = record {
+    let good : (place : Option PlaceState) → IsSavedPlace layout.profile place → IsSavedState (put_place place s) = λ place kept. record {
       key_len = header.key_len;
       key_bytes = header.key_bytes;
       order = header.order;
@@ -213,13 +227,20 @@ parts_take layout form h bytes x header fits e =
       queue = t1.1.0;
       lists = t2.1.0;
       stickers = t3.1;
+      place = kept;
     } in
-    let within : IsStateIn layout s = record { profile = refl; consume = header.consume; queue = t1.1.1; lists = t2.1.1 } in
-    subst (λ (y : SavedState × List ℕ). Takes bytes (parts_bytes y.0) y.1 × ((IsSavedState y.0 × IsStateIn layout y.0)
-    × (header_of y.0 ≡ h))) {x = (s, end)} (ok_is (s, end) x stickers.2) (j0, ((good, within), refl))
+    let within : (place : Option PlaceState) → IsStateIn layout (put_place place s) = λ place. record {
+      profile = refl;
+      consume = header.consume;
+      queue = t1.1.1;
+      lists = t2.1.1;
+    } in
+    let but : IsButPlace layout s = record { none = refl; with_place = λ place kept. (good place kept, within place) } in
+    subst (λ (y : SavedState × List ℕ). Takes bytes (parts_bytes y.0) y.1 × (IsButPlace layout y.0 × (header_of y.0 ≡ h)))
+    {x = (s, end)} (ok_is (s, end) x stickers.2) (j0, (but, refl))
 
 parts_again : (layout : Layout) → IsLayout layout → (s : SavedState) (rest : List ℕ) → IsSavedState s → IsStateIn layout s
-    → parts_at layout (header_of s) (parts_bytes s ++ rest) ≡ Ok (s, rest)
+    → parts_at layout (header_of s) (parts_bytes s ++ rest) ≡ Ok (put_place None s, rest)
 unfolding parts_at
 parts_again layout form s rest fits within =
     let queue = fits.queue.queue in
@@ -247,57 +268,73 @@ parts_again layout form s rest fits within =
       (stickers_is s.songs fits.songs).again s.stickers rest fits.stickers,
     )
     refl
-    ∙ ap (λ (p : Profile). Ok (record s { profile = p }, rest)) (sym within.profile)
+    ∙ ap (λ (p : Profile). Ok (record s { profile = p; place = None }, rest)) (sym within.profile)
 
 -- ---- the fields behind the parts
 
-abbrev pub fields_text : Profile → List ℕ
-fields_text Named = []
-fields_text Wide = byte_bytes 0
+abbrev pub fields_text : Profile → Option PlaceState → List ℕ
+fields_text Named place = []
+fields_text Wide place = place_bytes (unwrap_or place no_place)
 
-pub with_fields_is : (profile : Profile) (bytes : List ℕ) → with_fields profile bytes ≡ bytes ++ fields_text profile
-with_fields_is Named bytes = sym (append-nil bytes)
-with_fields_is Wide bytes = refl
+pub with_fields_is : (profile : Profile) (place : Option PlaceState) (bytes : List ℕ)
+    → with_fields profile place bytes ≡ bytes ++ fields_text profile place
+with_fields_is Named place bytes = sym (append-nil bytes)
+with_fields_is Wide place bytes = refl
 
--- the parts in front of the fields
+-- the parts in front of the fields, and the place that those tell
 record BeforeFields (profile : Profile) (field : Field SavedState) (x : SavedState × List ℕ) : Type 0 where
   parts : SavedState × List ℕ
+  place : Option PlaceState
   read : field ≡ Ok parts
-  same : parts.0 ≡ x.0
-  taken : IsBytes parts.1 → Takes parts.1 (fields_text profile) x.1
-
-no_field_is : IsField (λ bytes. such (λ n. eqb n 0) byte_at bytes) (λ n. byte_bytes n) (λ n. (n < 256) × (eqb n 0 ≡ true))
-no_field_is = such_is (λ n. eqb n 0) (λ bytes. byte_at bytes) (λ n. byte_bytes n) (λ n. n < 256) byte_is
+  same : parts.0.place ≡ None → put_place place parts.0 ≡ x.0
+  good : IsBytes parts.1 → IsSavedPlace profile place
+  taken : IsBytes parts.1 → Takes parts.1 (fields_text profile place) x.1
 
 fields_take : (profile : Profile) (field : Field SavedState) (x : SavedState × List ℕ) → before_fields profile field ≡ Ok x
     → BeforeFields profile field x
-fields_take Named field x e = record { parts = x; read = e; same = refl; taken = λ fits. record { parts = refl; rest_fits = fits } }
+fields_take Named field x e = record {
+  parts = x;
+  place = None;
+  read = e;
+  same = λ none. ap (λ (place : Option PlaceState). put_place place x.0) (sym none);
+  good = λ fits. tt;
+  taken = λ fits. record { parts = refl; rest_fits = fits };
+}
 fields_take Wide field x e =
     let parts = bind_ok field _ x e in
-    let count = bind_ok (such (λ n. eqb n 0) byte_at parts.0.1) _ x parts.2 in
-    let read = ok_is (parts.0.0, count.0.1) x count.2 in
+    let place = bind_ok (place_at parts.0.1) _ x parts.2 in
+    let read = ok_is (put_place (Some place.0.0) parts.0.0, place.0.1) x place.2 in
     record {
       parts = parts.0;
+      place = Some place.0.0;
       read = parts.1;
-      same = ap (λ (y : SavedState × List ℕ). y.0) read;
-      taken = λ fits.
-          let t = no_field_is.takes parts.0.1 count.0 fits count.1 in
-          let none : count.0.0 ≡ 0 = eqb-true _ _ t.1.1 in
-          subst (λ (rest : List ℕ). Takes parts.0.1 (byte_bytes 0) rest) (ap (λ (y : SavedState × List ℕ). y.1) read)
-          (subst (λ (n : ℕ). Takes parts.0.1 (byte_bytes n) count.0.1) none t.0);
+      same = λ none. ap (λ (y : SavedState × List ℕ). y.0) read;
+      good = λ fits. (place_is.takes parts.0.1 place.0 fits place.1).1;
+      taken = λ fits. subst (λ (rest : List ℕ). Takes parts.0.1 (place_bytes place.0.0) rest)
+          (ap (λ (y : SavedState × List ℕ). y.1) read) (place_is.takes parts.0.1 place.0 fits place.1).0;
     }
 
-fields_again : (profile : Profile) (s : SavedState) (rest : List ℕ)
-    → before_fields profile (Ok (s, fields_text profile ++ rest)) ≡ Ok (s, rest)
-unfolding such
-fields_again Named s rest = refl
-fields_again Wide s rest = refl
+fields_again : (profile : Profile) (s : SavedState) (rest : List ℕ) → IsSavedPlace profile s.place
+    → before_fields profile (Ok (put_place None s, fields_text profile s.place ++ rest)) ≡ Ok (s, rest)
+fields_again Named s rest good = of s.place refl good
+  where
+    of : (place : Option PlaceState) → s.place ≡ place → IsSavedPlace Named place
+        → before_fields Named (Ok (put_place None s, rest)) ≡ Ok (s, rest)
+    of None is good = ap (λ (place : Option PlaceState). Ok (put_place place s, rest)) (sym is)
+    of (Some place) is good = absurd good
+fields_again Wide s rest good = of s.place refl good
+  where
+    of : (place : Option PlaceState) → s.place ≡ place → IsSavedPlace Wide place
+        → before_fields Wide (Ok (put_place None s, fields_text Wide place ++ rest)) ≡ Ok (s, rest)
+    of None is good = absurd good
+    of (Some place) is good =
+        rw (place_is.again place rest good) (ap (λ (place : Option PlaceState). Ok (put_place place s, rest)) (sym is))
 
 -- ---- the state
 
 -- all of a snapshot but its checksum
 abbrev pub content_bytes : SavedState → List ℕ
-content_bytes s = with_fields s.profile (head_bytes s ++ parts_bytes s)
+content_bytes s = with_fields s.profile s.place (head_bytes s ++ parts_bytes s)
 
 pub saved_takes : (layout : Layout) → IsLayout layout → (bytes : List ℕ) (x : SavedState × List ℕ) → IsBytes bytes
     → saved_at layout bytes ≡ Ok x
@@ -309,15 +346,16 @@ saved_takes layout form bytes x fits e =
     let b = fields_take layout.profile (parts_at layout h.0.0 h.0.1) x h.2 in
     let u = parts_take layout form h.0.0 h.0.1 b.parts t.1 t.0.rest_fits b.read in
     let s = b.parts.0 in
+    let good = u.1.0.with_place b.place (b.good u.0.rest_fits) in
     let front : Takes bytes (head_bytes s) h.0.1 = subst (λ (header : Header). Takes bytes (header_text header) h.0.1) (sym u.1.1) t.0 in
     let both = Takes-then bytes (head_bytes s) h.0.1 (parts_bytes s) b.parts.1 front u.0 in
-    let all : Takes bytes ((head_bytes s ++ parts_bytes s) ++ fields_text layout.profile) x.1 =
-    Takes-then bytes (head_bytes s ++ parts_bytes s) b.parts.1 (fields_text layout.profile) x.1 both (b.taken u.0.rest_fits) in
-    let whole : (head_bytes s ++ parts_bytes s) ++ fields_text layout.profile ≡ content_bytes s =
-    ap (λ (p : Profile). (head_bytes s ++ parts_bytes s) ++ fields_text p) (sym u.1.0.1.profile)
-    ∙ sym (with_fields_is s.profile (head_bytes s ++ parts_bytes s)) in
-    subst (λ (y : SavedState). Takes bytes (content_bytes y) x.1 × (IsSavedState y × IsStateIn layout y)) b.same
-    (subst (λ (text : List ℕ). Takes bytes text x.1) whole all, u.1.0)
+    let text = head_bytes s ++ parts_bytes s in
+    let all : Takes bytes (text ++ fields_text layout.profile b.place) x.1 =
+    Takes-then bytes text b.parts.1 (fields_text layout.profile b.place) x.1 both (b.taken u.0.rest_fits) in
+    let whole : text ++ fields_text layout.profile b.place ≡ content_bytes (put_place b.place s) =
+    ap (λ (p : Profile). text ++ fields_text p b.place) (sym good.1.profile) ∙ sym (with_fields_is s.profile b.place text) in
+    subst (λ (y : SavedState). Takes bytes (content_bytes y) x.1 × (IsSavedState y × IsStateIn layout y)) (b.same u.1.0.none)
+    (subst (λ (text : List ℕ). Takes bytes text x.1) whole all, good)
 
 pub saved_again : (layout : Layout) → IsLayout layout → (s : SavedState) (rest : List ℕ) → IsSavedState s → IsStateIn layout s
     → saved_at layout (content_bytes s ++ rest) ≡ Ok (s, rest)
@@ -335,15 +373,16 @@ saved_again layout form s rest fits within =
       volume = fits.volume;
       consume = within.consume;
     } in
-    let end = fields_text layout.profile ++ rest in
+    let end = fields_text layout.profile s.place ++ rest in
     let regrouped : content_bytes s ++ rest ≡ head_bytes s ++ (parts_bytes s ++ end) =
-    ap (λ (text : List ℕ). text ++ rest) (with_fields_is s.profile (head_bytes s ++ parts_bytes s))
-    ∙ ap (λ (p : Profile). ((head_bytes s ++ parts_bytes s) ++ fields_text p) ++ rest) within.profile
-    ∙ append_assoc (head_bytes s ++ parts_bytes s) (fields_text layout.profile) rest
+    ap (λ (text : List ℕ). text ++ rest) (with_fields_is s.profile s.place (head_bytes s ++ parts_bytes s))
+    ∙ ap (λ (p : Profile). ((head_bytes s ++ parts_bytes s) ++ fields_text p s.place) ++ rest) within.profile
+    ∙ append_assoc (head_bytes s ++ parts_bytes s) (fields_text layout.profile s.place) rest
     ∙ append_assoc (head_bytes s) (parts_bytes s) end in
+    let kept : IsSavedPlace layout.profile s.place = subst (λ (p : Profile). IsSavedPlace p s.place) within.profile fits.place in
     ap (saved_at layout) regrouped
     ∙ rw (header_again layout (header_of s) (parts_bytes s ++ end) header)
-    (ap (before_fields layout.profile) (parts_again layout form s end fits within) ∙ fields_again layout.profile s rest)
+    (ap (before_fields layout.profile) (parts_again layout form s end fits within) ∙ fields_again layout.profile s rest kept)
 
 -- ---- the whole snapshot
 

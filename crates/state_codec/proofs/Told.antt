@@ -6,7 +6,9 @@ use Rattle.std.specs.Bool.{OnTrue, OnFalse}
 use Rattle.play_queue.specs.Refusal.{Answers}
 use Rattle.play_queue.specs.Queue.{QueueState}
 use Rattle.play_queue.specs.declared.refusal.QueueError.{QueueError}
-use Rattle.stored_lists.specs.Lists.{songs_or_none, move_refusal}
+use Rattle.stored_lists.specs.Lists.{Stored, songs_or_none, move_refusal}
+use Rattle.stored_lists.specs.Refusal.{Answers as AnswersLists}
+use Rattle.stored_lists.specs.declared.refusal.ListsError.{ListsError}
 use Rattle.stored_lists.specs.Songs.{Uris, moved}
 use Rattle.state_codec.specs.Editing.{AnswersCheck}
 use Rattle.state_codec.specs.OpsLists.{list_refusal, leaves_lists, same_uris}
@@ -27,6 +29,13 @@ pub edit_made : (o : Option QueueError) (r : Result (Unit {0}) QueueError) (q ed
 edit_made None (Ok x) q edited none answer made = made
 edit_made None (Err e) q edited none answer made = absurd (cc)
 edit_made (Some e) r q edited none answer made = absurd (cc)
+
+-- an edit of the playlists that isn't refused is made
+pub lists_made : (o : Option ListsError) (r : Result (Unit {0}) ListsError) (l edited : Stored) → o ≡ None → AnswersLists o r
+    → OnOk r (l ≡ edited) → l ≡ edited
+lists_made None (Ok x) l edited none answer made = made
+lists_made None (Err e) l edited none answer made = absurd (cc)
+lists_made (Some e) r l edited none answer made = absurd (cc)
 
 pub deletion_told : (op : QueueOp) (s : SavedState) (start end : ℕ) → op ≡ Delete start end
     → queue_refusal (Delete start end) s ≡ None

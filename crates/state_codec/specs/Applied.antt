@@ -3,8 +3,9 @@ use Rattle.std.specs.Prelude.{ℕ, suc, Bool, ◌==◌, List, [], ◌∷◌, Opt
 use Rattle.std.specs.Option.{ok_or}
 use Rattle.std.specs.Result.{result_ok}
 use Rattle.state_codec.specs.declared.op.Op.{Op}
-use Rattle.state_codec.specs.declared.op.Op.TheVariants.{SetOption, SetVolume, SetOrder, Queue, List as Lists, Sticker, Batch}
+use Rattle.state_codec.specs.declared.op.Op.TheVariants.{SetOption, SetVolume, SetOrder, Queue, List as Lists, Sticker, Batch, Place}
 use Rattle.state_codec.specs.OpsLists.{list_refusal, after_list, leaves_lists}
+use Rattle.state_codec.specs.OpsPlace.{place_refusal, after_place, leaves_place}
 use Rattle.state_codec.specs.OpsQueue.{queue_refusal, after_queue, leaves_queue}
 use Rattle.state_codec.specs.OpsRows.{rows_refusal, after_rows, leaves_rows}
 use Rattle.state_codec.specs.OpsSettings.{with_setting, is_set}
@@ -22,6 +23,7 @@ refusal_of (Queue op) s = queue_refusal op s
 refusal_of (Lists op) s = list_refusal op s
 refusal_of (Sticker op) s = sticker_refusal op s
 refusal_of (Batch changes) s = rows_refusal changes s
+refusal_of (Place op) s = place_refusal s.profile
 
 -- the state after it, where nothing refuses it
 abbrev pub after : Op → SavedState → SavedState
@@ -32,6 +34,7 @@ after (Queue op) s = after_queue op s
 after (Lists op) s = after_list op s
 after (Sticker op) s = after_sticker op s
 after (Batch changes) s = after_rows changes s
+after (Place op) s = after_place op s
 
 -- whether it changes nothing; of a batch, whether no change of it does at its turn
 abbrev pub changes_nothing : Op → SavedState → Bool
@@ -42,6 +45,7 @@ changes_nothing (Queue op) s = leaves_queue op s
 changes_nothing (Lists op) s = leaves_lists op s
 changes_nothing (Sticker op) s = leaves_stickers op s
 changes_nothing (Batch changes) s = leaves_rows changes s
+changes_nothing (Place op) s = leaves_place op s.place
 
 -- a state, unless it is refused
 abbrev pub unless_refused : Option OpRefusal → SavedState → Option SavedState

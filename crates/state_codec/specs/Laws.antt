@@ -1,12 +1,13 @@
 -- What the laws of ops say.
-use Rattle.std.specs.Prelude.{◌≡◌, Bool, true, false, List, [], ◌∷◌, None}
+use Rattle.std.specs.Prelude.{◌≡◌, Bool, true, false, List, [], ◌∷◌, Option, None}
+use Rattle.player_core.specs.Place.{PlaceState}
 use Rattle.song_db.specs.Change.{after_change}
 use Rattle.song_db.specs.Row.{Row}
 use Rattle.song_db.specs.declared.change.RowChange.{RowChange}
 use Rattle.state_codec.specs.Applied.{refusal_of}
 use Rattle.state_codec.specs.SavedState.{SavedState, IsSavedState}
 use Rattle.state_codec.specs.declared.op.Op.{Op}
-use Rattle.state_codec.specs.declared.op.Op.TheVariants.{SetOption, SetVolume, SetOrder, Queue, List as Lists, Sticker, Batch}
+use Rattle.state_codec.specs.declared.op.Op.TheVariants.{SetOption, SetVolume, SetOrder, Queue, List as Lists, Sticker, Batch, Place}
 use Rattle.state_codec.specs.declared.op.list_op.ListOp.{ListOp}
 use Rattle.state_codec.specs.declared.op.queue_op.QueueOp.{QueueOp}
 use Rattle.state_codec.specs.declared.op.queue_op.QueueOp.TheVariants.{Add, Delete, Move, Swap, Shuffle, Prio}
@@ -37,6 +38,21 @@ is_batch (Queue op) = false
 is_batch (Lists op) = false
 is_batch (Sticker op) = false
 is_batch (Batch changes) = true
+is_batch (Place op) = false
+
+abbrev pub is_place : Op → Bool
+is_place (SetOption setting) = false
+is_place (SetVolume volume) = false
+is_place (SetOrder order) = false
+is_place (Queue op) = false
+is_place (Lists op) = false
+is_place (Sticker op) = false
+is_place (Batch changes) = false
+is_place (Place op) = true
+
+-- the states that differ from one in the player's place alone
+abbrev pub but_place : Option PlaceState → SavedState → SavedState
+but_place place s = record s { place = place }
 
 -- each change leaves the rows as it finds them
 abbrev pub LeaveRows : List Row → List RowChange → Type 0
@@ -46,7 +62,7 @@ LeaveRows rows (change ∷ changes) = (after_change rows change ≡ rows) × Lea
 -- a state with the parts that an op of the queue can change as another one has them; a shuffle alone changes the order number
 abbrev pub with_queue_of : QueueOp → SavedState → SavedState → SavedState
 with_queue_of (Add at rows) s t = record s { queue = t.queue }
-with_queue_of (Delete start end) s t = record s { queue = t.queue }
+with_queue_of (Delete start end) s t = record s { queue = t.queue; place = t.place }
 with_queue_of (Move start end to) s t = record s { queue = t.queue }
 with_queue_of (Swap one other) s t = record s { queue = t.queue }
 with_queue_of (Shuffle start end) s t = record s { order = t.order; queue = t.queue }
@@ -60,7 +76,8 @@ with_parts_of (SetOrder order) s t = record s { order = t.order }
 with_parts_of (Queue op) s t = with_queue_of op s t
 with_parts_of (Lists op) s t = record s { lists = t.lists }
 with_parts_of (Sticker op) s t = record s { stickers = t.stickers }
-with_parts_of (Batch changes) s t = record s { songs = t.songs; queue = t.queue; stickers = t.stickers }
+with_parts_of (Batch changes) s t = record s { songs = t.songs; queue = t.queue; stickers = t.stickers; place = t.place }
+with_parts_of (Place op) s t = record s { place = t.place }
 
 -- a shuffle draws its words by the order number
 abbrev pub draws_words : QueueOp → Bool
@@ -80,3 +97,4 @@ uses_order (Queue op) = draws_words op
 uses_order (Lists op) = false
 uses_order (Sticker op) = false
 uses_order (Batch changes) = false
+uses_order (Place op) = false

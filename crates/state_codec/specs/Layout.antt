@@ -9,7 +9,7 @@ use Rattle.profile.specs.declared.profile.Profile.TheVariants.{Named, Wide}
 use Rattle.stored_lists.specs.Limits.{MAX_LISTS}
 use Rattle.state_codec.specs.declared.layout.Layout.{Layout}
 use Rattle.state_codec.specs.declared.op.Op.{Op}
-use Rattle.state_codec.specs.declared.op.Op.TheVariants.{SetOption, SetVolume, SetOrder, Queue, List as OfList, Sticker, Batch}
+use Rattle.state_codec.specs.declared.op.Op.TheVariants.{SetOption, SetVolume, SetOrder, Queue, List as OfList, Sticker, Batch, Place}
 use Rattle.state_codec.specs.declared.op.setting.Setting.{Setting}
 use Rattle.state_codec.specs.declared.op.setting.Setting.TheVariants.{Repeat, Random, Single, Consume}
 use Rattle.state_codec.specs.SavedState.{SavedState}
@@ -69,6 +69,7 @@ IsOpIn layout (Queue op) = ⊤
 IsOpIn layout (OfList op) = ⊤
 IsOpIn layout (Sticker op) = ⊤
 IsOpIn layout (Batch changes) = ⊤
+IsOpIn layout (Place op) = ⊤
 
 -- ops whose values the layout has
 abbrev pub AreOpsIn : Layout → List Op → Type 0

@@ -4,6 +4,7 @@ pub mod Editing
 pub mod Numbers
 pub mod Ops
 pub mod OpsLists
+pub mod OpsPlace
 pub mod OpsQueue
 pub mod OpsRows
 pub mod OpsSettings
@@ -23,12 +24,14 @@ pub mod Fields
 pub mod Items
 pub mod Given
 pub mod ReadingRows
+pub mod ReadingPlace
 pub mod ReadingOps
 pub mod ReadingSaved
 pub mod Reading
 pub mod SpellingFields
 pub mod SpellingRows
 pub mod SpellingOps
+pub mod SpellingPlace
 pub mod Spelling
 pub mod Answers
 pub mod Appended

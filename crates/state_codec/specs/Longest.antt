@@ -1,6 +1,7 @@
 -- How many bytes a snapshot has at most.
 use Rattle.std.specs.Prelude.{ℕ, ◌+◌, ◌*◌}
 use Rattle.play_queue.specs.Limits.{MAX_ENTRIES as QUEUE_LIMIT}
+use Rattle.player_core.specs.Place.{longest_round}
 use Rattle.profile.specs.declared.profile.Profile.{Profile}
 use Rattle.profile.specs.declared.profile.Profile.TheVariants.{Named, Wide}
 use Rattle.song_db.specs.Limits.{MAX_URI_BYTES, MAX_ROWS, MAX_ROW_TAG_BYTES, MAX_CHANGES}
@@ -44,12 +45,12 @@ longest_head = 32 + 8 + 4 + 4 + 1 + 4
 abbrev pub longest_lists : ℕ
 longest_lists = MAX_LISTS * longest_list + LISTS_LIMIT * longest_text MAX_URI_BYTES
 
--- no field, and the checksum
+-- the number of fields, field 2 and field 3; and the checksum
 abbrev pub longest_end : Profile → ℕ
 longest_end Named = 0
-longest_end Wide = 1 + 4
+longest_end Wide = (1 + (5 + 13) + (5 + 4 * longest_round)) + 4
 
--- the head and the four parts, each behind its number, and what stands behind them: 692,197,445 bytes, or 2,456,950,858
+-- the head and the four parts, each behind its number, and what stands behind them: 692,197,445 bytes, or 2,457,213,025
 abbrev pub longest_snapshot : Profile → ℕ
 longest_snapshot profile =
     longest_head + (4 + MAX_ROWS * longest_row profile) + (4 + QUEUE_LIMIT * longest_entry) + (4 + longest_lists)

@@ -2,12 +2,15 @@
 use Rattle.std.specs.Prelude.{ℕ, ◌<◌, ◌≤◌, ◌^◌, List, length, IsTrue}
 use Rattle.std.specs.List.{AllByRecursion}
 use Rattle.profile.specs.declared.profile.Profile.{Profile}
+use Rattle.profile.specs.declared.profile.Profile.TheVariants.{Named, Wide}
 use Rattle.song_db.specs.Uri.{is_uri}
 use Rattle.state_codec.specs.Changes.{AreChanges, are_kept}
 use Rattle.state_codec.specs.Numbers.{MAX_COUNT, AreRowNumbers, AreOpRanges}
 use Rattle.state_codec.specs.Text.{is_text, is_sticker_text}
 use Rattle.state_codec.specs.declared.op.Op.{Op}
-use Rattle.state_codec.specs.declared.op.Op.TheVariants.{SetOption, SetVolume, SetOrder, Queue, List as OfList, Sticker, Batch}
+use Rattle.state_codec.specs.declared.op.Op.TheVariants.{SetOption, SetVolume, SetOrder, Queue, List as OfList, Sticker, Batch, Place}
+use Rattle.state_codec.specs.declared.op.place_op.PlaceOp.{PlaceOp}
+use Rattle.state_codec.specs.declared.op.place_op.PlaceOp.TheVariants as places
 use Rattle.state_codec.specs.declared.op.queue_op.QueueOp.{QueueOp}
 use Rattle.state_codec.specs.declared.op.queue_op.QueueOp.TheVariants as queue
 use Rattle.state_codec.specs.declared.op.list_op.ListOp.{ListOp}
@@ -46,6 +49,12 @@ IsStickerOp (stickers.Set uri name value) = IsUri uri × (IsText name × IsTrue 
 IsStickerOp (stickers.Delete uri name) = IsUri uri × IsText name
 IsStickerOp (stickers.DeleteAll uri) = IsUri uri
 
+abbrev pub IsPlaceOp : PlaceOp → Type 0
+IsPlaceOp (places.Put state song frame) = (song < 2 ^ 32) × (frame < 2 ^ 64)
+IsPlaceOp (places.Played id) = id < 2 ^ 32
+IsPlaceOp places.Begins = Unit {0}
+IsPlaceOp (places.Leaves id) = id < 2 ^ 32
+
 abbrev pub IsOp : Op → Type 0
 IsOp (SetOption setting) = Unit {0}
 IsOp (SetVolume volume) = volume ≤ 100
@@ -54,8 +63,13 @@ IsOp (Queue op) = IsQueueOp op
 IsOp (OfList op) = IsListOp op
 IsOp (Sticker op) = IsStickerOp op
 IsOp (Batch changes) = AreChanges changes
+IsOp (Place op) = IsPlaceOp op
 
--- an op all of whose rows the profile keeps
+abbrev pub KeepsPlace : Profile → Type 0
+KeepsPlace Named = ⊥
+KeepsPlace Wide = Unit {0}
+
+-- an op that the profile has, all of whose rows it keeps
 abbrev pub IsKeptOp : Profile → Op → Type 0
 IsKeptOp profile (SetOption setting) = Unit {0}
 IsKeptOp profile (SetVolume volume) = Unit {0}
@@ -64,6 +78,7 @@ IsKeptOp profile (Queue op) = Unit {0}
 IsKeptOp profile (OfList op) = Unit {0}
 IsKeptOp profile (Sticker op) = Unit {0}
 IsKeptOp profile (Batch changes) = IsTrue (are_kept profile changes)
+IsKeptOp profile (Place op) = KeepsPlace profile
 
 -- the ops of one record under a profile: at least one
 abbrev pub AreOps : Profile → List Op → Type 0

@@ -5,6 +5,8 @@ use Rattle.play_queue.specs.Entries.{Uris, block, deleted, moved, added, new_ent
 use Rattle.play_queue.specs.Queue.{QueueState, ruled, is_unchanged}
 use Rattle.play_queue.specs.Refused.{add_refusal, range_refusal, move_refusal, swap_refusal, ranges_refusal}
 use Rattle.play_queue.specs.Shuffle.{shuffled}
+use Rattle.player_core.specs.Place.{place_left}
+use Rattle.player_core.specs.declared.block.Block.{Block}
 use Rattle.player_core.specs.Words.{word, next_order}
 use Rattle.state_codec.specs.OpsSongs.{have_rows, uris_at, if_named}
 use Rattle.state_codec.specs.SavedState.{SavedState}
@@ -37,10 +39,16 @@ with_shuffled s start end =
     let words = words_for s.key (next_order s.order) s.queue.entries start end in
     ruled s.queue (shuffled s.queue.entries start end words) []
 
--- the state after it
+abbrev pub range : ℕ → ℕ → Block
+range start end = record { start = start; end = end }
+
+-- the state after it; where the entry of the kept song leaves, or one of its round, the place loses it
 abbrev pub after_queue : QueueOp → SavedState → SavedState
 after_queue (Add at rows) s = record s { queue = with_added s.queue at (uris_at s.songs rows) }
-after_queue (Delete start end) s = record s { queue = ruled s.queue (deleted s.queue.entries start end) [] }
+after_queue (Delete start end) s = record s {
+  queue = ruled s.queue (deleted s.queue.entries start end) [];
+  place = option_map (place_left (range start end) [] s.queue.entries) s.place;
+}
 after_queue (Move start end to) s = record s { queue = ruled s.queue (moved s.queue.entries start end to) [] }
 after_queue (Swap one other) s = record s { queue = ruled s.queue (swap s.queue.entries one other) [] }
 after_queue (Shuffle start end) s = record s { order = next_order s.order; queue = with_shuffled s start end }

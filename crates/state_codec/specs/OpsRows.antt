@@ -3,6 +3,8 @@ use Rattle.std.specs.Prelude.{Bool, true, not, List, filter, map, Option, Some, 
 use Rattle.std.specs.List.{list_any}
 use Rattle.play_queue.specs.Entries.{Uris, is_among, kept}
 use Rattle.play_queue.specs.Queue.{QueueState, ruled}
+use Rattle.player_core.specs.Place.{place_left}
+use Rattle.player_core.specs.declared.block.Block.{Block}
 use Rattle.song_db.specs.Change.{after_batch}
 use Rattle.song_db.specs.Effect.{effects_of, changes_a_row}
 use Rattle.song_db.specs.Refusal.{refusal_of as batch_refusal}
@@ -42,7 +44,10 @@ without_songs all uris = filter (λ sticker. not (is_among uris sticker.uri)) al
 abbrev pub with_batch : QueueState → Uris → Uris → QueueState
 with_batch queue dropped changed = ruled queue (kept queue.entries dropped) changed
 
--- the state after it: a dropped song takes its queue entries and its stickers along; playlists keep its URI
+abbrev pub no_range : Block
+no_range = record { start = 0; end = 0 }
+
+-- the state after it: a dropped song takes its queue entries and its stickers along, and the place loses it; playlists keep its URI
 abbrev pub after_rows : List RowChange → SavedState → SavedState
 after_rows changes s =
     let songs = after_batch s.songs changes in
@@ -50,6 +55,7 @@ after_rows changes s =
       songs = songs;
       queue = with_batch s.queue (drops_of changes) (changed_uris s.songs songs);
       stickers = without_songs s.stickers (drops_of changes);
+      place = option_map (place_left no_range (drops_of changes) s.queue.entries) s.place;
     }
 
 -- whether no change of it changes a row at its turn

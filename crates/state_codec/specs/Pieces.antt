@@ -11,7 +11,7 @@ use Rattle.stored_lists.specs.Lists.{Stored}
 use Rattle.state_codec.specs.Appended.{IsShortSticker}
 use Rattle.state_codec.specs.Checksum.{with_byte, ONES}
 use Rattle.state_codec.specs.Longest.{longest_sticker}
-use Rattle.state_codec.specs.Spelling.{playlist_bytes, sticker_bytes, with_fields}
+use Rattle.state_codec.specs.Spelling.{playlist_bytes, sticker_bytes}
 use Rattle.state_codec.specs.SpellingFields.{text_bytes, u32_bytes}
 
 -- how many bytes a piece has at most
@@ -67,6 +67,6 @@ abbrev pub sealed_from : Profile → ℕ → List ℕ → List ℕ
 sealed_from Named sum bytes = bytes
 sealed_from Wide sum bytes = bytes ++ u32_bytes (bit_xor (fold with_byte sum bytes) ONES)
 
--- what is left of a snapshot whose parts have these bytes left
+-- what is left of a snapshot whose parts and fields have these bytes left
 abbrev pub snapshot_left : Bool → Profile → ℕ → List ℕ → List ℕ
-snapshot_left has_ended profile sum parts = if has_ended then [] else sealed_from profile sum (with_fields profile parts)
+snapshot_left has_ended profile sum parts = if has_ended then [] else sealed_from profile sum parts

@@ -3,7 +3,7 @@ use Rattle.std.specs.Prelude.{ℕ, zero, suc, List, [], ◌∷◌, length, Resul
 use Rattle.std.specs.Int.{is_in_range}
 use Rattle.stickers.specs.Value.{is_good_value}
 use Rattle.state_codec.specs.declared.op.Op.{Op}
-use Rattle.state_codec.specs.declared.op.Op.TheVariants.{SetOption, SetVolume, SetOrder, Queue, List as OfList, Sticker, Batch}
+use Rattle.state_codec.specs.declared.op.Op.TheVariants.{SetOption, SetVolume, SetOrder, Queue, List as OfList, Sticker, Batch, Place}
 use Rattle.state_codec.specs.declared.op.setting.Setting.{Setting}
 use Rattle.state_codec.specs.declared.op.setting.Setting.TheVariants as settings
 use Rattle.state_codec.specs.declared.op.queue_op.QueueOp.{QueueOp}
@@ -16,6 +16,7 @@ use Rattle.state_codec.specs.declared.layout.Layout.{Layout}
 use Rattle.state_codec.specs.Fields.{Field, made, such, both, byte_at, u32_at, u64_at, pair_at, volume_at, flag_at, consume_at, single_at}
 use Rattle.state_codec.specs.Fields.{text_at}
 use Rattle.state_codec.specs.Items.{list_at}
+use Rattle.state_codec.specs.ReadingPlace.{is_place_kind, place_op_at}
 use Rattle.state_codec.specs.ReadingRows.{uri_at, changes_at}
 use Rattle.state_codec.specs.Steps.{◌>>=◌}
 
@@ -78,6 +79,7 @@ op_at layout bytes = do
       else if is_in_range 10 16 kind.0 then made OfList (list_op_at kind.0 kind.1)
       else if is_in_range 17 19 kind.0 then made Sticker (sticker_op_at kind.0 kind.1)
       else if kind.0 == 20 then made Batch (changes_at layout.profile kind.1)
+      else if is_place_kind layout.profile kind.0 then made Place (place_op_at kind.0 kind.1)
       else Err (length bytes)
 
 -- the ops up to the end, at most n of them

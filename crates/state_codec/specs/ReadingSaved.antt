@@ -1,5 +1,5 @@
 -- The reading of a snapshot.
-use Rattle.std.specs.Prelude.{ℕ, ◌+◌, ◌-◌, List, [], ◌∷◌, length, slice_get, Bool, not, ◌&&◌, ◌==◌, Ok}
+use Rattle.std.specs.Prelude.{ℕ, ◌+◌, ◌-◌, List, [], ◌∷◌, length, slice_get, Bool, not, ◌&&◌, Some, None, Ok}
 use Rattle.std.specs.Option.{ok_or}
 use Rattle.std.specs.Int.{is_in_range}
 use Rattle.std.specs.Ordering.{nat_cmp, is_lt}
@@ -28,6 +28,7 @@ use Rattle.state_codec.specs.Fields.{Field, such, byte_at, u32_at, u64_at, numbe
 use Rattle.state_codec.specs.Fields.{text_at}
 use Rattle.state_codec.specs.Items.{counted_at}
 use Rattle.state_codec.specs.ReadingOps.{value_at}
+use Rattle.state_codec.specs.ReadingPlace.{place_at}
 use Rattle.state_codec.specs.ReadingRows.{uri_at, row_at}
 use Rattle.state_codec.specs.SavedState.{SavedState}
 use Rattle.state_codec.specs.Steps.{◌>>=◌}
@@ -130,7 +131,7 @@ header_at layout bytes = do
   options ← options_at layout volume.1
   Ok (record { key = key.0; order = order.0; version = version.0; next_id = next_id.0; volume = volume.0; options = options.0 }, options.1)
 
--- rows, queue entries, playlists and stickers, behind a header
+-- rows, queue entries, playlists and stickers, behind a header; no place is known yet
 unfoldable pub parts_at : Layout → Header → List ℕ → Field SavedState
 parts_at layout header bytes = do
   songs ← songs_at layout.profile bytes
@@ -148,17 +149,18 @@ parts_at layout header bytes = do
       queue = record { entries = entries.0; version = header.version; next_id = header.next_id };
       lists = lists.0;
       stickers = stickers.0;
+      place = None;
     },
     stickers.1,
   )
 
--- Behind the parts the second profile has fields, behind their number in one byte. As yet there is none.
-abbrev pub before_fields : {A : Type 0} → Profile → Field A → Field A
+-- behind the parts the second profile has fields: those of the player's place
+abbrev pub before_fields : Profile → Field SavedState → Field SavedState
 before_fields Named field = field
 before_fields Wide field = do
   parts ← field
-  count ← such (λ n. n == 0) byte_at parts.1
-  Ok (parts.0, count.1)
+  place ← place_at parts.1
+  Ok (record parts.0 { place = Some place.0 }, place.1)
 
 -- a snapshot without its checksum
 unfoldable pub saved_at : Layout → List ℕ → Field SavedState

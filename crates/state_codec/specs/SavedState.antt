@@ -1,12 +1,14 @@
 -- What is kept of the daemon's state on disk.
-use Rattle.std.specs.Prelude.{◌≡◌, ℕ, ◌<◌, ◌≤◌, ◌^◌, List, [], length, slice_index, false, IsTrue}
+use Rattle.std.specs.Prelude.{◌≡◌, ℕ, ◌<◌, ◌≤◌, ◌^◌, List, [], length, slice_index, false, IsTrue, Option, Some, None}
 use Rattle.std.specs.List.{All, AllByRecursion}
 use Rattle.std.specs.Str.{is_utf8}
 use Rattle.play_queue.specs.declared.entry.Entry.{Entry}
 use Rattle.play_queue.specs.Queue.{QueueState, IsQueue}
+use Rattle.player_core.specs.Place.{PlaceState, no_place, IsPlace}
 use Rattle.player_core.specs.declared.options.Options.{Options}
 use Rattle.player_core.specs.declared.options.Single.TheVariants.{Off}
 use Rattle.profile.specs.declared.profile.Profile.{Profile}
+use Rattle.profile.specs.declared.profile.Profile.TheVariants.{Named, Wide}
 use Rattle.song_db.specs.Change.{IsDatabase, has_uri}
 use Rattle.song_db.specs.Row.{Row, is_kept_by}
 use Rattle.state_codec.specs.Changes.{IsSavedRow}
@@ -23,6 +25,7 @@ pub record SavedState : Type 0 where
   pub queue : QueueState
   pub lists : Stored
   pub stickers : List Sticker
+  pub place : Option PlaceState
 
 -- the key of the random order has so many bytes
 abbrev pub key_len : ℕ
@@ -68,6 +71,13 @@ pub record AreSavedStickers (songs : List Row) (stickers : List Sticker) : Type 
   pub within : AreStickers stickers
   pub each : AllByRecursion (IsSavedSticker songs) stickers
 
+-- the player's place is kept under the wide profile alone
+abbrev pub IsSavedPlace : Profile → Option PlaceState → Type 0
+IsSavedPlace Named None = Unit {0}
+IsSavedPlace Named (Some place) = ⊥
+IsSavedPlace Wide None = ⊥
+IsSavedPlace Wide (Some place) = IsPlace place
+
 pub record IsSavedState (s : SavedState) : Type 0 where
   pub key_len : length s.key ≡ key_len
   pub key_bytes : IsBytes s.key
@@ -78,6 +88,11 @@ pub record IsSavedState (s : SavedState) : Type 0 where
   pub queue : IsSavedQueue s.songs s.queue
   pub lists : AreSavedLists s.lists
   pub stickers : AreSavedStickers s.songs s.stickers
+  pub place : IsSavedPlace s.profile s.place
+
+abbrev pub first_place : Profile → Option PlaceState
+first_place Named = None
+first_place Wide = Some no_place
 
 -- the state of a new journal
 abbrev pub fresh : Profile → List ℕ → SavedState
@@ -92,4 +107,13 @@ fresh profile key =
       queue = record { entries = []; version = 1; next_id = 1 };
       lists = [];
       stickers = [];
+      place = first_place profile;
     }
+
+-- the state as the wide profile takes it: it keeps all that the other one does, and the player's place from now on
+abbrev pub widened_from : Profile → SavedState → SavedState
+widened_from Named s = record s { profile = Wide; place = Some no_place }
+widened_from Wide s = s
+
+abbrev pub widened : SavedState → SavedState
+widened s = widened_from s.profile s

@@ -1,7 +1,8 @@
 -- The one spelling of ops and of a saved state in bytes. Numbers are little-endian.
-use Rattle.std.specs.Prelude.{ℕ, List, ◌++◌, unwrap_or}
+use Rattle.std.specs.Prelude.{ℕ, List, [], ◌++◌, unwrap_or, Option}
 use Rattle.std.specs.List.{flat_map}
 use Rattle.play_queue.specs.declared.entry.Entry.{Entry}
+use Rattle.player_core.specs.Place.{PlaceState, no_place}
 use Rattle.player_core.specs.declared.options.Options.{Options}
 use Rattle.profile.specs.declared.profile.Profile.{Profile}
 use Rattle.profile.specs.declared.profile.Profile.TheVariants.{Named, Wide}
@@ -13,6 +14,7 @@ use Rattle.state_codec.specs.SavedState.{SavedState}
 use Rattle.state_codec.specs.Sealed.{sealed}
 use Rattle.state_codec.specs.SpellingFields.{byte_bytes, u32_bytes, u64_bytes, flag_bytes, single_bytes, text_bytes, list_bytes}
 use Rattle.state_codec.specs.SpellingOps.{op_bytes}
+use Rattle.state_codec.specs.SpellingPlace.{place_bytes}
 use Rattle.state_codec.specs.SpellingRows.{row_bytes}
 
 -- ops one after the other
@@ -51,11 +53,15 @@ parts_bytes s =
     list_bytes (row_bytes s.profile) s.songs
     ++ (list_bytes (entry_bytes s.songs) s.queue.entries ++ (list_bytes playlist_bytes s.lists ++ list_bytes sticker_bytes s.stickers))
 
--- Behind the parts the second profile has fields, behind their number in one byte. As yet there is none.
-abbrev pub with_fields : Profile → List ℕ → List ℕ
-with_fields Named bytes = bytes
-with_fields Wide bytes = bytes ++ byte_bytes 0
+-- behind the parts the second profile has fields: those of the player's place
+abbrev pub with_fields : Profile → Option PlaceState → List ℕ → List ℕ
+with_fields Named place bytes = bytes
+with_fields Wide place bytes = bytes ++ place_bytes (unwrap_or place no_place)
+
+-- the fields of a state
+abbrev pub fields_of : SavedState → List ℕ
+fields_of s = with_fields s.profile s.place []
 
 -- a snapshot, with its checksum where the profile asks for one
 abbrev pub saved_bytes : SavedState → List ℕ
-saved_bytes s = sealed s.profile (with_fields s.profile (head_bytes s ++ parts_bytes s))
+saved_bytes s = sealed s.profile (with_fields s.profile s.place (head_bytes s ++ parts_bytes s))

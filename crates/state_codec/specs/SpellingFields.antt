@@ -4,6 +4,8 @@ use Rattle.std.specs.List.{flat_map}
 use Rattle.std.specs.Int.{w16, w32, w64, to_le_bytes}
 use Rattle.player_core.specs.declared.options.Single.{Single}
 use Rattle.player_core.specs.declared.options.Single.TheVariants.{Off, On, Oneshot}
+use Rattle.player_core.specs.declared.playing.PlayState.{PlayState}
+use Rattle.player_core.specs.declared.playing.PlayState.TheVariants.{Stop, Play, Pause}
 
 abbrev pub byte_bytes : ℕ → List ℕ
 byte_bytes n = n ∷ []
@@ -25,6 +27,14 @@ abbrev pub single_bytes : Single → List ℕ
 single_bytes Off = 0 ∷ []
 single_bytes On = 1 ∷ []
 single_bytes Oneshot = 2 ∷ []
+
+abbrev pub state_number : PlayState → ℕ
+state_number Stop = 0
+state_number Pause = 1
+state_number Play = 2
+
+abbrev pub state_bytes : PlayState → List ℕ
+state_bytes state = byte_bytes (state_number state)
 
 -- a text: its length in 16 bits, and its bytes
 abbrev pub text_bytes : List ℕ → List ℕ

@@ -1,17 +1,20 @@
 -- The spelling of ops: an op's number and its fields.
-use Rattle.std.specs.Prelude.{ℕ, List, ◌∷◌, ◌++◌}
+use Rattle.std.specs.Prelude.{ℕ, List, [], ◌∷◌, ◌++◌}
 use Rattle.profile.specs.declared.profile.Profile.{Profile}
 use Rattle.state_codec.specs.declared.op.Op.{Op}
-use Rattle.state_codec.specs.declared.op.Op.TheVariants.{SetOption, SetVolume, SetOrder, Queue, List as OfList, Sticker, Batch}
+use Rattle.state_codec.specs.declared.op.Op.TheVariants.{SetOption, SetVolume, SetOrder, Queue, List as OfList, Sticker, Batch, Place}
 use Rattle.state_codec.specs.declared.op.setting.Setting.{Setting}
 use Rattle.state_codec.specs.declared.op.setting.Setting.TheVariants as settings
+use Rattle.state_codec.specs.declared.op.place_op.PlaceOp.{PlaceOp}
+use Rattle.state_codec.specs.declared.op.place_op.PlaceOp.TheVariants as places
 use Rattle.state_codec.specs.declared.op.queue_op.QueueOp.{QueueOp}
 use Rattle.state_codec.specs.declared.op.queue_op.QueueOp.TheVariants as queue
 use Rattle.state_codec.specs.declared.op.list_op.ListOp.{ListOp}
 use Rattle.state_codec.specs.declared.op.list_op.ListOp.TheVariants as lists
 use Rattle.state_codec.specs.declared.op.sticker_op.StickerOp.{StickerOp}
 use Rattle.state_codec.specs.declared.op.sticker_op.StickerOp.TheVariants as stickers
-use Rattle.state_codec.specs.SpellingFields.{byte_bytes, u32_bytes, u64_bytes, pair_bytes, flag_bytes, single_bytes, text_bytes, list_bytes}
+use Rattle.state_codec.specs.SpellingFields.{byte_bytes, u32_bytes, u64_bytes, pair_bytes, flag_bytes, single_bytes, state_bytes}
+use Rattle.state_codec.specs.SpellingFields.{text_bytes, list_bytes}
 use Rattle.state_codec.specs.SpellingRows.{changes_bytes}
 
 -- the option's number and its value
@@ -74,6 +77,19 @@ sticker_fields (stickers.Set uri name value) = text_bytes uri ++ (text_bytes nam
 sticker_fields (stickers.Delete uri name) = text_bytes uri ++ text_bytes name
 sticker_fields (stickers.DeleteAll uri) = text_bytes uri
 
+-- the numbers of the ops on the player's place
+abbrev pub place_kind : PlaceOp → ℕ
+place_kind (places.Put state song frame) = 22
+place_kind (places.Played id) = 23
+place_kind places.Begins = 24
+place_kind (places.Leaves id) = 25
+
+abbrev pub place_fields : PlaceOp → List ℕ
+place_fields (places.Put state song frame) = state_bytes state ++ (u32_bytes song ++ u64_bytes frame)
+place_fields (places.Played id) = u32_bytes id
+place_fields places.Begins = []
+place_fields (places.Leaves id) = u32_bytes id
+
 -- the op's number and its fields
 abbrev pub op_bytes : Profile → Op → List ℕ
 op_bytes profile (SetOption value) = 1 ∷ setting_bytes value
@@ -83,3 +99,4 @@ op_bytes profile (Queue op) = queue_kind op ∷ queue_fields op
 op_bytes profile (OfList op) = list_kind op ∷ list_fields op
 op_bytes profile (Sticker op) = sticker_kind op ∷ sticker_fields op
 op_bytes profile (Batch changes) = 20 ∷ changes_bytes profile changes
+op_bytes profile (Place op) = place_kind op ∷ place_fields op

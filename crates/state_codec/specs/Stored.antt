@@ -14,4 +14,5 @@ state_of parts =
       queue = parts.queue;
       lists = parts.lists;
       stickers = parts.stickers;
+      place = parts.place;
     }

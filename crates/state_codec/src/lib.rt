@@ -14,7 +14,9 @@ mod sealed;
 mod writing;
 
 pub use layout::layout_number;
-pub use op::{Changes, ListOp, Op, OpRanges, QueueOp, RowNumbers, Setting, StickerOp, Text};
+pub use op::{
+    Changes, ListOp, Op, OpRanges, PlaceOp, QueueOp, RowNumbers, Setting, StickerOp, Text,
+};
 pub use pieces::SavedPieces;
 pub use reading::{take_ops, take_saved};
 pub use refusal::{ApplyError, BodyError, CodecError, OpRefusal};

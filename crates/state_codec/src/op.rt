@@ -3,6 +3,7 @@ use player_core::Volume;
 
 mod changes;
 mod list_op;
+mod place_op;
 mod queue_op;
 mod ranges;
 mod row_numbers;
@@ -12,6 +13,7 @@ mod text;
 
 pub use changes::Changes;
 pub use list_op::ListOp;
+pub use place_op::PlaceOp;
 pub use queue_op::QueueOp;
 pub use ranges::OpRanges;
 pub use row_numbers::RowNumbers;
@@ -34,4 +36,6 @@ pub enum Op {
     Sticker(StickerOp),
     /// What a scan changed in the database; it takes queue entries and stickers of songs that go along.
     Batch(Changes),
+    /// What is kept of the player.
+    Place(PlaceOp),
 }

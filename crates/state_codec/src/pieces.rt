@@ -10,16 +10,20 @@ ghost use Rattle.state_codec.specs.SpellingFields.{byte_bytes, u32_bytes};
 
 use crate::checksum::with_bytes;
 use crate::saved::Saved;
-use crate::writing::{put_byte, put_u32, saved_len};
+use crate::writing::{put_u32, saved_len};
 use items::{EntriesLeft, HeadLeft, ListsLeft, RowsLeft, StickersLeft};
 use part::{Both, Counted, Part, fill};
+use place::{PlaceHeadLeft, RoundLeft};
 use profile::Profile;
 use std::marker::Model;
 
 mod items;
 mod part;
+mod place;
 
-type Texts<'a> = Both<Counted<ListsLeft<'a>>, Counted<StickersLeft<'a>>>;
+type PlaceLeft<'a> = Both<PlaceHeadLeft<'a>, RoundLeft<'a>>;
+
+type Texts<'a> = Both<Counted<ListsLeft<'a>>, Both<Counted<StickersLeft<'a>>, PlaceLeft<'a>>>;
 
 type Parts<'a> = Both<
     HeadLeft<'a>,
@@ -93,9 +97,10 @@ impl<'a> SavedPieces<'a> {
     }
 }
 
-// The head and the four parts of a saved state.
+// The head, the four parts and the fields of a saved state.
 fn parts_of(saved: &Saved) -> Parts<'_>
-    ensures { ⟦<Parts<'static> as Part>⟧.left result ≡ head_bytes saved.now ++ parts_bytes saved.now }
+    ensures { ⟦<Parts<'static> as Part>⟧.left result
+        ≡ with_fields saved.now.profile saved.now.place (head_bytes saved.now ++ parts_bytes saved.now) }
 {
     let _key = saved.key();
     Both {
@@ -118,10 +123,16 @@ fn parts_of(saved: &Saved) -> Parts<'_>
                         is_told: false,
                         items: ListsLeft::new(saved.lists()),
                     },
-                    second: Counted {
-                        count: saved.stickers().len() as u32,
-                        is_told: false,
-                        items: StickersLeft::new(saved.stickers()),
+                    second: Both {
+                        first: Counted {
+                            count: saved.stickers().len() as u32,
+                            is_told: false,
+                            items: StickersLeft::new(saved.stickers()),
+                        },
+                        second: Both {
+                            first: PlaceHeadLeft::new(saved.place()),
+                            second: RoundLeft::new(saved.place()),
+                        },
                     },
                 },
             },
@@ -129,14 +140,13 @@ fn parts_of(saved: &Saved) -> Parts<'_>
     }
 }
 
-// Puts what stands behind the parts of a snapshot behind the last of their bytes, where the sum of those before has come so far.
+// Puts the checksum behind the last of a snapshot's bytes, where the sum of those before has come so far.
 fn put_end(out: &mut Vec<u8>, profile: Profile, sum: u32)
-    requires { HasRoom out.old 5 }
-    ensures items { out.new.items ≡ sealed_from profile sum (with_fields profile out.old.items) }
+    requires { HasRoom out.old 4 }
+    ensures items { out.new.items ≡ sealed_from profile sum out.old.items }
     ensures capacity { vec_capacity out.new ≡ vec_capacity out.old }
 {
     if let Profile::Wide = profile {
-        put_byte(out, 0);
         let sum = with_bytes(sum, out.as_slice()) ^ u32::MAX;
         put_u32(out, sum);
     }

@@ -19,6 +19,7 @@ use std::alloc::Global;
 mod body;
 mod lists;
 mod ops;
+mod place;
 mod queue;
 mod rows;
 mod saved;

@@ -1,11 +1,12 @@
 // The saved half of the state: what a restart finds again.
-ghost use Rattle.std.specs.Prelude.{◌≡◌, IfOk};
-ghost use Rattle.state_codec.specs.SavedState.{IsSavedState, fresh};
+ghost use Rattle.std.specs.Prelude.{◌≡◌, IfOk, OnErr, OnOk};
+ghost use Rattle.std.specs.Option.{option_copied};
+ghost use Rattle.state_codec.specs.SavedState.{IsSavedState, first_place, fresh, widened};
 ghost use Rattle.state_codec.specs.Stored.{state_of};
 
 use no_memory::NoMemory;
 use play_queue::Queue;
-use player_core::{Options, Volume};
+use player_core::{Options, Place, Volume};
 use profile::Profile;
 use song_db::SongDb;
 use std::alloc::Global;
@@ -18,6 +19,7 @@ mod batch;
 mod checking;
 mod list_edits;
 mod parts;
+mod placing;
 mod queue_edits;
 mod replacing;
 mod row_edits;
@@ -26,6 +28,7 @@ mod telling;
 
 pub use batch::{dropped_by, row_behind};
 pub use parts::SavedParts;
+pub(crate) use placing::{has_no_ids, is_start};
 
 /// The state that is kept on disk. Each URI of the queue and of a sticker has a row.
 #[derive(Debug, Drop)]
@@ -46,11 +49,12 @@ impl Model for Saved {
 }
 
 impl Saved {
-    /// The state of a new journal, whose random order is drawn from this key. It takes no memory yet.
-    pub fn fresh(alloc: Global, profile: Profile, key: [u8; 32]) -> Self
-        ensures { result ≡ fresh profile key }
+    /// The state of a new journal, whose random order is drawn from this key. Under the wide profile it takes the memory that the player's
+    /// place may need, and else none yet.
+    pub fn fresh(alloc: Global, profile: Profile, key: [u8; 32]) -> Result<Self, NoMemory>
+        ensures { IfOk result (λ saved. saved ≡ fresh profile key) }
     {
-        Saved {
+        Ok(Saved {
             parts: SavedParts {
                 profile,
                 key,
@@ -61,8 +65,9 @@ impl Saved {
                 queue: Queue::new(alloc),
                 lists: Lists::new(alloc),
                 stickers: Stickers::new(alloc),
+                place: first_place(alloc, profile)?,
             },
-        }
+        })
     }
 
     /// The state of these parts.
@@ -80,11 +85,21 @@ impl Saved {
         self.parts.profile
     }
 
-    /// Brings the state to the wide profile, which keeps all that the other one does.
-    pub fn widen(&mut self)
-        ensures { self.new ≡ record self.old { profile = Profile.Wide } }
+    /// Brings the state to the wide profile, which keeps all that the other one does, and takes the memory that the player's place
+    /// may need. Without it the state stays as it was.
+    pub fn widen(&mut self, alloc: Global) -> Result<(), NoMemory>
+        ensures ok { OnOk result (self.new ≡ widened self.old) }
+        ensures err { OnErr result (self.new ≡ self.old) }
     {
-        self.parts.profile = Profile::Wide;
+        match self.parts.profile {
+            Profile::Named => {
+                let place = Place::new(alloc)?;
+                self.parts.place = Some(place);
+                self.parts.profile = Profile::Wide;
+                Ok(())
+            }
+            Profile::Wide => Ok(()),
+        }
     }
 
     /// The key from which the random order is drawn.
@@ -138,6 +153,13 @@ impl Saved {
         &self.parts.stickers
     }
 
+    /// What is kept of the player.
+    pub fn place(&self) -> Option<&Place>
+        ensures { option_copied result ≡ self.now.place }
+    {
+        self.parts.place.as_ref()
+    }
+
     /// The same state once more, in memory of its own.
     pub fn try_clone(&self, alloc: Global) -> Result<Saved, NoMemory>
         ensures { IfOk result (λ copy. copy ≡ self.now) }
@@ -154,7 +176,28 @@ impl Saved {
                 queue: parts.queue.try_clone(alloc)?,
                 lists: parts.lists.try_clone(alloc)?,
                 stickers: parts.stickers.try_clone(alloc)?,
+                place: copy_of(alloc, parts.place.as_ref())?,
             },
         })
+    }
+}
+
+// What a new journal keeps of the player.
+fn first_place(alloc: Global, profile: Profile) -> Result<Option<Place>, NoMemory>
+    ensures { IfOk result (λ place. place ≡ first_place profile) }
+{
+    match profile {
+        Profile::Named => Ok(None),
+        Profile::Wide => Ok(Some(Place::new(alloc)?)),
+    }
+}
+
+// A place once more, if there is one.
+fn copy_of(alloc: Global, place: Option<&Place>) -> Result<Option<Place>, NoMemory>
+    ensures { IfOk result (λ copy. copy ≡ option_copied place.entry) }
+{
+    match place {
+        Some(place) => Ok(Some(place.try_clone(alloc)?)),
+        None => Ok(None),
     }
 }

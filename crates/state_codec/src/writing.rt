@@ -5,7 +5,7 @@ ghost use Rattle.state_codec.specs.Appended.{HasRoom, Appends};
 ghost use Rattle.state_codec.specs.Ops.{IsOp};
 ghost use Rattle.state_codec.specs.SavedState.{IsSavedState};
 ghost use Rattle.state_codec.specs.Sealed.{sealed, checksum_len};
-ghost use Rattle.state_codec.specs.Spelling.{ops_bytes, body_bytes, head_bytes, parts_bytes, saved_bytes};
+ghost use Rattle.state_codec.specs.Spelling.{ops_bytes, body_bytes, fields_of, head_bytes, parts_bytes, saved_bytes};
 ghost use Rattle.state_codec.specs.SpellingOps.{op_bytes};
 
 use crate::op::Op;
@@ -18,6 +18,7 @@ use std::alloc::Global;
 mod bytes;
 mod lengths;
 mod ops;
+mod place;
 mod rows;
 mod saved;
 mod sums;
@@ -25,6 +26,7 @@ mod sums;
 pub(crate) use bytes::{put_byte, put_text, put_u32};
 pub(crate) use lengths::saved_len;
 pub(crate) use ops::{put_uri, uri_len};
+pub(crate) use place::put_place_head;
 pub(crate) use rows::{put_row, texts_len};
 pub(crate) use saved::{put_entry, put_head, put_sticker, row_number};
 
@@ -102,8 +104,20 @@ pub fn put_saved(alloc: Global, saved: &Saved) -> Result<Vec<u8>, NoMemory>
     let _key = saved.key();
     let mut out = Vec::with_capacity(alloc, lengths::saved_len(saved))?;
     put_parts(&mut out, saved);
-    sums::put_end(&mut out, saved.profile());
+    put_fields(&mut out, saved);
+    sums::put_sum(&mut out, saved.profile(), 0);
     Ok(out)
+}
+
+// Appends the fields behind the parts, where the profile has any.
+fn put_fields(out: &mut Vec<u8>, saved: &Saved)
+    requires { HasRoom out.old (length (fields_of saved.now)) }
+    ensures { Appends out.old out.new (fields_of saved.now) }
+{
+    let _key = saved.key();
+    if let Some(place) = saved.place() {
+        place::put_place(out, place);
+    }
 }
 
 // Appends the head and the four parts.

@@ -150,6 +150,7 @@ pub fn play<C: Ledger, P: Ledger, S: Ledger, R: Wait + Clock>(
         stand,
         &mut music(host, alloc, stand),
         &mut output,
+        0,
     )
 }
 

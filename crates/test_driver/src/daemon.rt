@@ -10,7 +10,7 @@ use driver_base::{DaemonDisk, Desk, Fault, Lines, Printer, write_out};
 use log::sink::Discard;
 use log::{Level, Logged};
 use mio_clients::{Clients, MemReady};
-use mpd_server::{NothingWaits, Opened, ServeEnd, ServeStatus, Workers, open_journal};
+use mpd_server::{NothingWaits, Opened, Resuming, ServeEnd, ServeStatus, Workers, open_journal};
 use profile::Profile;
 use song_db::LibraryRules;
 use song_files::MemFolder;
@@ -42,6 +42,7 @@ fn serve_opened<W: Threads + Wait + Clock + Sync>(
             writer: Vec::new(alloc),
             form: Form::Bare,
         },
+        resuming: Resuming::NEVER,
         stop: NothingWaits,
         wake: NoWake,
     };

@@ -282,7 +282,7 @@ pub fn take_line<R: Wait + Clock, C: Ledger, P: Ledger, S: Ledger>(
         "scan_once" => return scan(rt, host, looped, &mut beside.printer),
         "file" | "remove" | "folder" => return take_song_line(host, word, rest),
         "batch" | "scanned" => SCAN,
-        "fed" | "ended" | "broken" => PLAYER,
+        "fed" | "ended" | "broken" | "keep" | "resume" => PLAYER,
         _ => return call(&mut looped.clients, beside, word, rest),
     };
     report(rt, &looped.stage, &mut looped.passes, place, beside, line)

@@ -75,7 +75,7 @@ fn serve_all<R: Threads + Wait + Clock + Sync, B: BufRead>(
     host: &HostRuntime,
     lines: &mut Lines<B>,
 ) -> Result<(), Fault> {
-    let mut driver = Driver::new(host.alloc());
+    let mut driver = Driver::new(host.alloc())?;
     take_lines(rt, host, &mut driver, lines)
 }
 

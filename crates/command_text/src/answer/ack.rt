@@ -102,6 +102,7 @@ fn append_command_text(
         CommandRefusal::NoCurrentSong => append(out, &[b"No current song"]),
         CommandRefusal::PlaylistExists => append(out, &[b"Playlist already exists"]),
         CommandRefusal::AlreadyUpdating => append(out, &[b"already updating"]),
+        CommandRefusal::UpdatesFull => append(out, &[b"Update queue is full"]),
         CommandRefusal::QueueFull => append(out, &[b"Queue is full"]),
         CommandRefusal::IdsSpent => append(out, &[b"Song ids are spent"]),
         CommandRefusal::PlaylistsFull => append(out, &[b"Too many playlists or entries"]),

@@ -1,7 +1,8 @@
 //! The lines of a song, and of an entry of the queue (MPD protocol reference 0.23, "Other Metadata").
 ghost use Rattle.play_queue.specs.Shown.{shown};
 ghost use Rattle.command_text.specs.Answer.{Adds, pair};
-ghost use Rattle.command_text.specs.AnswerSongs.{file_line, modified_line, head_lines, format_text, tag_line, shown_line};
+ghost use Rattle.command_text.specs.AnswerSongs.{file_line, modified_line, head_lines, format_text, tag_line, shown_line, named_file_lines};
+ghost use Rattle.command_text.specs.AnswerSongs.{size_line};
 ghost use Rattle.command_text.specs.AnswerSongs.{tag_lines, song_lines, priority_line, entry_lines};
 ghost use Rattle.command_text.specs.AnswerSongs.{place_lines, id_line, numbered_file};
 
@@ -14,7 +15,7 @@ use itoa::Buffer;
 use no_memory::NoMemory;
 use play_queue::EntryRef;
 use song_db::SongRow;
-use song_files::{Tag, Tags};
+use song_files::{FileStamp, Tag, Tags};
 use wave_pcm::WaveInfo;
 
 /// Adds the line `file: URI`.
@@ -32,6 +33,26 @@ fn write_modified(out: &mut Vec<u8>, time: Option<u64>) -> Result<(), NoMemory>
         None => Ok(()),
         Some(time) => write_time(out, "Last-Modified", time),
     }
+}
+
+/// Adds the line `size: BYTES` of a file of which that is known.
+fn write_size(out: &mut Vec<u8>, stamp: Option<FileStamp>) -> Result<(), NoMemory>
+    ensures { Adds (size_line stamp) result out.old out.new }
+{
+    match stamp {
+        None => Ok(()),
+        Some(stamp) => write_number(out, "size", stamp.length),
+    }
+}
+
+/// Adds the lines of a song's file by its name in its folder: `file`, and where they are known `size` and `Last-Modified`.
+pub fn write_named_file(out: &mut Vec<u8>, name: &[u8], row: &SongRow) -> Result<(), NoMemory>
+    ensures { Adds (named_file_lines name.now row.now) result out.old out.new }
+{
+    let stamp = row.stamp();
+    write_pair(out, "file", name)?;
+    write_size(out, stamp)?;
+    write_modified(out, known_time(stamp))
 }
 
 /// Adds the lines of a song's file.

@@ -27,6 +27,8 @@ pub enum DatabaseCommand<'w> {
     Commands,
     ListAll(Option<Text<'w>>),
     ListAllInfo(Option<Text<'w>>),
+    /// The names right in a folder.
+    ListFiles(Option<Text<'w>>),
     ListInfo(Option<Text<'w>>),
     NotCommands,
     Stats,
@@ -52,6 +54,7 @@ pub(crate) fn read<'w>(
         DatabaseName::Commands => Ok(no_argument(DatabaseCommand::Commands, words)?),
         DatabaseName::ListAll => Ok(DatabaseCommand::ListAll(path_argument(words)?)),
         DatabaseName::ListAllInfo => Ok(DatabaseCommand::ListAllInfo(path_argument(words)?)),
+        DatabaseName::ListFiles => Ok(DatabaseCommand::ListFiles(path_argument(words)?)),
         DatabaseName::ListInfo => Ok(DatabaseCommand::ListInfo(path_argument(words)?)),
         DatabaseName::NotCommands => Ok(no_argument(DatabaseCommand::NotCommands, words)?),
         DatabaseName::Stats => Ok(no_argument(DatabaseCommand::Stats, words)?),

@@ -8,7 +8,7 @@ ghost use Rattle.command_text.specs.Finding.{has_search_count};
 ghost use Rattle.filter_expr.specs.Parts.{opening, begins_so};
 ghost use Rattle.profile.specs.declared.profile.Profile.TheVariants.{Named, Wide};
 ghost use Rattle.command_text.specs.Finding.{filter_length, value_behind, second_place, sort_part, window_part, position_part};
-ghost use Rattle.command_text.specs.Finding.{nothing_left};
+ghost use Rattle.command_text.specs.Finding.{nothing_left, has_arranged_count, arranged_search, in_queue_of};
 ghost use Rattle.command_text.specs.Finding.{search_parts, find_of, find_add_of, filter_alone, add_to_playlist_of, list_of, finding_of};
 ghost use Rattle.command_text.specs.Finding.{files_of, is_artist_alone, is_file, listed_words, values_of};
 ghost use Rattle.command_text.specs.Finding.{count_of, filter_if_any, group_counts_of, grouped_tag, groups_of, listing_of};
@@ -36,7 +36,7 @@ use std::alloc::Global;
 pub struct Search {
     pub case: Case,
     pub filter: Filter,
-    /// By URI, if nothing is said.
+    /// As they are told, or as they stand in the queue, if nothing is said.
     pub sort: Option<SortOrder>,
     pub window: Option<Window>,
 }
@@ -47,13 +47,13 @@ pub enum FindingCommand<'w> {
     /// Adds what is found to the queue.
     Add(Search, Option<Target>),
     /// Adds what is found, the case of letters aside, to a playlist.
-    AddToPlaylist(Text<'w>, Filter),
+    AddToPlaylist(Text<'w>, Search),
     Count(Filter),
     /// How many songs have each value of a tag, of all songs or of those that match.
     CountGroups(Tag, Option<Filter>),
     Find(Search),
     /// The entries of the queue that match.
-    InQueue(Case, Filter),
+    InQueue(Search),
     /// The files of all songs or of those that match.
     ListFiles(Option<Filter>),
     /// The distinct values of tags, each within those of the tag before it, of all songs or of those that match.
@@ -77,14 +77,8 @@ pub(crate) fn read<'w>(
         FindingName::Find => find(alloc, profile, Case::Exact, words),
         FindingName::FindAdd => find_add(alloc, profile, Case::Exact, words),
         FindingName::ListTag => list(alloc, profile, words),
-        FindingName::QueueFind => {
-            let filter = filter_alone(alloc, profile, words)?;
-            Ok(FindingCommand::InQueue(Case::Exact, filter))
-        }
-        FindingName::QueueSearch => {
-            let filter = filter_alone(alloc, profile, words)?;
-            Ok(FindingCommand::InQueue(Case::Folded, filter))
-        }
+        FindingName::QueueFind => in_queue(alloc, profile, Case::Exact, words),
+        FindingName::QueueSearch => in_queue(alloc, profile, Case::Folded, words),
         FindingName::Search => find(alloc, profile, Case::Folded, words),
         FindingName::SearchAdd => find_add(alloc, profile, Case::Folded, words),
         FindingName::SearchAddPlaylist => add_to_playlist(alloc, profile, words),
@@ -371,22 +365,24 @@ fn nothing_left<T: Drop>(
     }
 }
 
-/// A filter, an order and a window, and the words behind them.
+/// A filter, an order and a window, and the words behind them, of so many arguments in all.
 #[tactic(auto, unfolding(crate::specs::Finding::search_parts))]
 fn search_parts<'w, 'a>(
     alloc: Global,
     profile: Profile,
     adds: bool,
     case: Case,
+    total: usize,
     words: &'w [LineWord<'a>],
 ) -> Result<(Search, &'w [LineWord<'a>]), Stop>
-    requires { IsTrue (has_search_count profile adds words.now) }
-    ensures { ReadsAs (λ x. (x.0, x.1.now)) result (search_parts profile adds case words.now) }
+    requires count { IsTrue (has_search_count profile adds words.now) }
+    requires few { total + 2 < 2 ^ 64 }
+    ensures { ReadsAs (λ x. (x.0, x.1.now)) result (search_parts profile adds case total words.now) }
 {
     let (of_filter, behind) = words.split_at(filter_length(profile, adds, words));
     let filter = filter_argument(alloc, profile, of_filter)?;
     let (sort, behind) = sort_part(alloc, profile, behind)?;
-    let (window, behind) = window_part(words.len(), behind)?;
+    let (window, behind) = window_part(total, behind)?;
     let search = Search {
         case,
         filter,
@@ -408,7 +404,7 @@ fn find<'w>(
     if !has_search_count(profile, false, words) {
         return Err(Stop::Refused(CommandRefusal::WrongCount));
     }
-    let (search, behind) = search_parts(alloc, profile, false, case, words)?;
+    let (search, behind) = search_parts(alloc, profile, false, case, words.len(), words)?;
     let command = FindingCommand::Find(search);
     Ok(nothing_left(words.len(), behind, command)?)
 }
@@ -425,7 +421,7 @@ fn find_add<'w>(
     if !has_search_count(profile, true, words) {
         return Err(Stop::Refused(CommandRefusal::WrongCount));
     }
-    let (search, behind) = search_parts(alloc, profile, true, case, words)?;
+    let (search, behind) = search_parts(alloc, profile, true, case, words.len(), words)?;
     let (to, behind) = position_part(words.len(), behind)?;
     let command = FindingCommand::Add(search, to);
     Ok(nothing_left(words.len(), behind, command)?)
@@ -442,6 +438,46 @@ fn filter_alone(alloc: Global, profile: Profile, words: &[LineWord<'_>]) -> Resu
     filter_argument(alloc, profile, words)
 }
 
+/// Whether these may be a filter by their count, behind which in the wide profile an order and a window may stand.
+fn has_arranged_count(profile: Profile, words: &[LineWord<'_>]) -> bool
+    ensures { result ≡ has_arranged_count profile words.now }
+{
+    match profile {
+        Profile::Named => has_filter_count(profile, words),
+        Profile::Wide => has_search_count(profile, false, words),
+    }
+}
+
+/// Such a filter with what stands behind it, of so many arguments in all.
+#[tactic(auto, unfolding(crate::specs::Finding::arranged_search))]
+fn arranged_search(
+    alloc: Global,
+    profile: Profile,
+    case: Case,
+    total: usize,
+    words: &[LineWord<'_>],
+) -> Result<Search, Stop>
+    requires count { IsTrue (has_arranged_count profile words.now) }
+    requires few { total + 2 < 2 ^ 64 }
+    ensures { Reads result (arranged_search profile case total words.now) }
+{
+    match profile {
+        Profile::Named => {
+            let filter = filter_argument(alloc, profile, words)?;
+            Ok(Search {
+                case,
+                filter,
+                sort: None,
+                window: None,
+            })
+        }
+        Profile::Wide => {
+            let (search, behind) = search_parts(alloc, profile, false, case, total, words)?;
+            Ok(nothing_left(total, behind, search)?)
+        }
+    }
+}
+
 #[tactic(auto, unfolding(crate::specs::Finding::add_to_playlist_of))]
 fn add_to_playlist<'w>(
     alloc: Global,
@@ -452,15 +488,31 @@ fn add_to_playlist<'w>(
 {
     match words {
         [] => Err(Stop::Refused(CommandRefusal::WrongCount)),
-        [name, words @ ..] => {
-            if !has_filter_count(profile, words) {
+        [name, rest @ ..] => {
+            if !has_arranged_count(profile, rest) {
                 return Err(Stop::Refused(CommandRefusal::WrongCount));
             }
             let name = playlist_name(name.bytes())?;
-            let filter = filter_argument(alloc, profile, words)?;
-            Ok(FindingCommand::AddToPlaylist(name, filter))
+            let search = arranged_search(alloc, profile, Case::Folded, words.len(), rest)?;
+            Ok(FindingCommand::AddToPlaylist(name, search))
         }
     }
+}
+
+#[tactic(auto, unfolding(crate::specs::Finding::in_queue_of))]
+fn in_queue<'w>(
+    alloc: Global,
+    profile: Profile,
+    case: Case,
+    words: &'w [LineWord<'_>],
+) -> Result<FindingCommand<'w>, Stop>
+    ensures { Reads result (in_queue_of profile case words.now) }
+{
+    if !has_arranged_count(profile, words) {
+        return Err(Stop::Refused(CommandRefusal::WrongCount));
+    }
+    let search = arranged_search(alloc, profile, case, words.len(), words)?;
+    Ok(FindingCommand::InQueue(search))
 }
 
 #[tactic(auto, unfolding(crate::specs::Finding::list_of))]

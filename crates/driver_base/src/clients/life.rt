@@ -136,9 +136,9 @@ fn parts_of_send<'a>(line: &'a str) -> Option<(&'a str, &'a str)> {
 
 impl Life {
     // A core over a fresh saved state, whose key is of zeros, and no client.
-    fn new(alloc: Global) -> Self {
-        Life {
-            core: Core::new(alloc, Saved::fresh(alloc, Profile::Named, [0; 32])),
+    fn new(alloc: Global) -> Result<Self, Fault> {
+        Ok(Life {
+            core: Core::new(alloc, Saved::fresh(alloc, Profile::Named, [0; 32])?),
             clients: BTreeMap::new(alloc),
             printed: Printed {
                 printer: Printer::new(alloc),
@@ -150,7 +150,7 @@ impl Life {
                 takes: Some(usize::MAX),
                 turns: None,
             },
-        }
+        })
     }
 
     // What the lines since it was cleared printed.
@@ -195,6 +195,6 @@ fn serve<B: BufRead>(
 /// A core, to which the lines up to `close` happen; `false` where the input ends before.
 // The core has many parts: this function has one way out, and all others borrow it.
 pub fn live_core<B: BufRead>(host: &HostRuntime, lines: &mut Lines<B>) -> Result<bool, Fault> {
-    let mut life = Life::new(host.alloc());
+    let mut life = Life::new(host.alloc())?;
     serve(host, &mut life, lines)
 }

@@ -13,4 +13,7 @@ pub fn tell_state(printer: &mut Printer, state: &Saved) {
     printer.text(format!(in printer.alloc; "{songs:?}\n{queue:?}\n").ok());
     let (lists, stickers) = (state.lists(), state.stickers());
     printer.text(format!(in printer.alloc; "{lists:?}\n{stickers:?}\n").ok());
+    if let Some(place) = state.place() {
+        printer.text(format!(in printer.alloc; "{place:?}\n").ok());
+    }
 }

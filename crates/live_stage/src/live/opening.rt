@@ -32,15 +32,17 @@ fn state_read<D: Disk>(
 }
 
 // A state as the profile takes it.
-fn brought(profile: Profile, saved: Saved) -> Saved
-    ensures { result ≡ brought profile saved }
+fn brought(alloc: Global, profile: Profile, saved: Saved) -> Result<Saved, StartError>
+    ensures { GivesState result (Ok (brought profile saved)) }
 {
     match profile {
-        Profile::Named => saved,
+        Profile::Named => Ok(saved),
         Profile::Wide => {
             let mut saved = saved;
-            saved.widen();
-            saved
+            match saved.widen(alloc) {
+                Ok(()) => Ok(saved),
+                Err(_) => Err(StartError::NoMemory),
+            }
         }
     }
 }
@@ -56,7 +58,7 @@ pub(super) fn state_in<D: Disk>(
     ensures profile { is_read profile journal.now.layout ≡ true → IfOk result (λ saved. saved.profile ≡ profile) }
 {
     match state_read(alloc, journal, stored) {
-        Ok(saved) => Ok(brought(profile, saved)),
+        Ok(saved) => brought(alloc, profile, saved),
         Err(error) => Err(error),
     }
 }

@@ -19,7 +19,7 @@ use Rattle.song_db.specs.Row.{Row}
 use Rattle.filter_expr.specs.Meaning.{is_match}
 use Rattle.song_files.specs.declared.tag.Tag.{Tag}
 use Rattle.machine_core.specs.Adding.{adds}
-use Rattle.machine_core.specs.Finding.{finding_meaning, matching, found, numbers_in, chosen, entries_found, told_values, value_lines}
+use Rattle.machine_core.specs.Finding.{finding_meaning, matching, found, numbers_in, chosen, entries_found, entry_row_lines, told_values, value_lines}
 use Rattle.machine_core.specs.Finding.{group_counts, group_lines, in_order, in_window, part_of}
 use Rattle.machine_core.specs.declared.commands.finding.part.Part.{Part}
 use Rattle.machine_core.specs.Meaning.{says}
@@ -36,10 +36,11 @@ pub find_means : (mask : TagMask) (m : MachineState) (search : Search)
 unfolding finding_meaning
 find_means mask m search = refl
 
-pub entries_mean : (mask : TagMask) (m : MachineState) (case : Case) (tree : Tree)
-    → finding_meaning mask (InQueue case tree) m ≡ says (entries_found mask case tree m.saved.songs 0 m.saved.queue.entries) m
+pub entries_mean : (mask : TagMask) (m : MachineState) (search : Search)
+    → finding_meaning mask (InQueue search) m ≡ says (flat_map (entry_row_lines mask) (entries_found search m.saved.songs
+    m.saved.queue.entries)) m
 unfolding finding_meaning
-entries_mean mask m case tree = refl
+entries_mean mask m search = refl
 
 pub values_mean : (m : MachineState) (tag : Tag) (tree : Option Tree)
     → finding_meaning all_in_mask (ListTag tag tree) m ≡ says (value_lines tag (told_values m.saved.profile

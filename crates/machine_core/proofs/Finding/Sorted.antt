@@ -4,7 +4,9 @@ use Rattle.std.proofs.Common.{Option, Some, None, arith}
 use Rattle.std.proofs.Math.Seq.{take-append_seam}
 use Rattle.std.proofs.lemmas.List.{length-map, length-drop, length-take}
 use Rattle.std.specs.List.{take-map, drop-map}
+use Rattle.command_text.specs.declared.range.Window.{Window}
 use Rattle.filter_expr.specs.Order.{inserted, sorted, window_of}
+use Rattle.machine_core.specs.Finding.{in_window}
 
 -- what was changed in place
 pub written_back : {X : Type 0} (count : ℕ) (new rest : List X) → length new ≡ count → take count (new ++ rest) ≡ new
@@ -19,6 +21,11 @@ pub seen_window : {X Y : Type 0} (view : X → Y) (start : ℕ) (end : Option �
 seen_window view start None xs =
     seen_part view start (length xs) xs ∙ ap (λ n. drop start (take n (map view xs))) (sym (length-map xs view))
 seen_window view start (Some end) xs = seen_part view start end xs
+
+pub seen_part_or_all : {X Y : Type 0} (view : X → Y) (part : Option Window) (xs : List X)
+    → map view (in_window part xs) ≡ in_window part (map view xs)
+seen_part_or_all view None xs = refl
+seen_part_or_all view (Some part) xs = seen_window view part.start part.end xs
 
 pub window_length : {X : Type 0} (start : ℕ) (end : Option ℕ) (xs : List X) → length (window_of start end xs) ≤ length xs
 window_length start None xs = omega (arith, length-drop start (take (length xs) xs), length-take (length xs) xs)

@@ -9,6 +9,7 @@ use Rattle.std.specs.Vec.{vec_len}
 use Rattle.command_text.specs.Answer.{Adds}
 use Rattle.no_memory.specs.declared.NoMemory.{NoMemory as WantOfMemory}
 use Rattle.song_db.specs.Row.{Row}
+use Rattle.state_codec.specs.declared.op.Op.{Op}
 use Rattle.machine_core.specs.Finding.{Writes}
 use Rattle.machine_core.specs.Meaning.{Meant, says}
 use Rattle.machine_core.specs.State.{MachineState}
@@ -106,7 +107,7 @@ stopped_looking all left before now result h failed = h result now (writes_no_mo
 
 -- a command that means lines which such a writer wrote, and which were kept or cut off
 pub finds : (meant : Meant) (lines : List ℕ) (m : MachineState) (mark : ℕ) (w x y : Work) (written : Result (Unit {0}) WantOfMemory)
-    (result : Result (Unit {0}) Failure) → meant ≡ says lines m → mark ≡ vec_len w.text → x.ops.items ≡ w.ops.items → x.size ≡ w.size
+    (result : Result (Unit {0}) Failure) → meant ≡ says lines m → mark ≡ vec_len w.text → x.ops ≡ w.ops → x.size ≡ w.size
     → Writes lines written w.text x.text → Keeps mark written x y result → Performs meant m m w y result
 finds meant lines m mark w x y (Ok u) result means at ops size a k =
     reads meant lines m m mark w x y (Ok u) result means refl at ops size (record { all = a.all; front = tt; full = tt; room = a.room }) k
@@ -117,7 +118,7 @@ finds meant lines m mark w x y (Err e) (Err NoMemory) means at ops size a k = re
   nothing = record {
     text = k.cut ∙ ap (λ n. take n x.text.items) (let h : mark ≡ length w.text.items = omega (arith, at, w.text.ok.0) in h) ∙ a.front;
     room = omega (arith, a.room, k.room);
-    ops = k.ops ∙ ops;
+    ops = k.ops ∙ ap (λ (v : Vec Op). v.items) ops;
     size = k.size ∙ size;
   };
   refusal = tt;

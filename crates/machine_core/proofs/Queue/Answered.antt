@@ -5,6 +5,7 @@ use Rattle.std.proofs.lemmas.Bool.{false≢true}
 use Rattle.std.proofs.lemmas.List.{append-nil, take-append-le}
 use Rattle.std.proofs.Math.Seq.{take-length}
 use Rattle.std.specs.Result.{is_err}
+use Rattle.std.specs.Global.{Vec}
 use Rattle.std.specs.Prelude.{nat_le, if◌then◌else◌}
 use Rattle.std.specs.Vec.{vec_len, vec_capacity}
 use Rattle.command_text.specs.Answer.{Adds}
@@ -24,6 +25,7 @@ use Rattle.machine_core.specs.Work.{IsRefusalOf, Keeps, Performs}
 use Rattle.machine_core.specs.declared.work.Failure.{Failure}
 use Rattle.machine_core.specs.declared.work.Failure.TheVariants.{Refused, NoMemory}
 use Rattle.machine_core.specs.declared.work.Work.{Work}
+use Rattle.machine_core.proofs.Answering.{kept_room}
 
 -- the same with these lines
 abbrev telling : List ℕ → Meant → Meant
@@ -81,8 +83,11 @@ front_stays : (mark : ℕ) (old new added : List ℕ) → mark ≡ length old �
 front_stays mark old new added at e = rw (e, at) (take-append-le (length old) old added (omega arith) ∙ take-length old)
 
 module _ (op : Op) (lines : List ℕ) (m n : MachineState) (mark : ℕ) (w x y done : Work) (written : Result (Unit {0}) WantOfMemory)
-    (u : Unit {0}) (at : mark ≡ vec_len w.text) (ops : x.ops.items ≡ w.ops.items) (size : x.size ≡ w.size)
+    (u : Unit {0}) (at : mark ≡ vec_len w.text) (ops : x.ops ≡ w.ops) (size : x.size ≡ w.size)
     (adds : Adds lines written w.text x.text) (keeps : Keeps mark written x y (Ok u)) where
+  same_items : x.ops.items ≡ w.ops.items
+  same_items = ap (λ (v : Vec Op). v.items) ops
+
   written_all : (r : Result (Unit {0}) WantOfMemory) → Adds lines r w.text x.text → Keeps mark r x y (Ok u)
       → y.text.items ≡ w.text.items ++ lines
   written_all (Ok v) a k = k.kept.1.0 ∙ a.all
@@ -100,11 +105,12 @@ module _ (op : Op) (lines : List ℕ) (m n : MachineState) (mark : ℕ) (w x y d
         stands = went.stands;
         text = went.text ∙ ap (λ (t : List ℕ). y.text.items ++ t) silent ∙ append-nil y.text.items ∙ all;
         ops = record {
-          ops = went.ops.ops ∙ ap (λ (o : List Op). o ++ went.meaning.ops) (keeps.ops ∙ ops);
+          ops = went.ops.ops ∙ ap (λ (o : List Op). o ++ went.meaning.ops) (keeps.ops ∙ same_items);
           size = omega (arith, went.ops.size, keeps.size, size);
           fits = went.ops.fits;
         };
         room = went.room;
+        keeps = λ can. went.keeps (keeps.keeps (kept_room x w ops can));
       }
 
   taken_back : (cut : Work) (failure : Failure) → Performs {T = Unit {0}} (edits op [] m) m n y done (Err failure)
@@ -115,7 +121,7 @@ module _ (op : Op) (lines : List ℕ) (m n : MachineState) (mark : ℕ) (w x y d
     nothing = record {
       text = front ∙ front_stays mark w.text.items done.text.items lines (omega (arith, at, w.text.ok.0)) (failed.nothing.text ∙ all);
       room = omega (arith, room, failed.nothing.room, keeps.room, adds.room);
-      ops = same_ops ∙ failed.nothing.ops ∙ keeps.ops ∙ ops;
+      ops = same_ops ∙ failed.nothing.ops ∙ keeps.ops ∙ same_items;
       size = same_size ∙ failed.nothing.size ∙ keeps.size ∙ size;
     };
     refusal =

@@ -16,7 +16,7 @@ use Rattle.state_codec.specs.declared.op.queue_op.QueueOp.TheVariants.{Move, Shu
 use Rattle.machine_core.specs.Meaning.{does}
 use Rattle.machine_core.specs.Queue.{bring, shuffle_ops, shuffles_around}
 use Rattle.machine_core.specs.State.{MachineState}
-use Rattle.machine_core.specs.Work.{AddsNothing, AddsOps, HasRoom, Went, command_room}
+use Rattle.machine_core.specs.Work.{AddsNothing, AddsOps, CanKeep, HasRoom, Went, command_room}
 use Rattle.machine_core.specs.declared.span.Span.{Span}
 use Rattle.machine_core.specs.declared.work.Work.{Work}
 use Rattle.machine_core.proofs.Queue.Shuffled.{around_means, move_is_free}
@@ -54,8 +54,9 @@ module _ (id at : ℕ) (span : Span) (m n : MachineState) (stands : n ≡ record
       → queue_refusal (Shuffle span.start span.end) m.saved ≡ None → 2 ≤ span.end - span.start
       → saved ≡ after (move at span) n.saved → HasRoom command_room work → AddsNothing work admitted → admitted.text ≡ work.text
       → AddsOps (shuffle span ∷ move at span ∷ []) (length (ops_bytes profile (shuffle span ∷ move at span ∷ []))) admitted done
-      → done.text ≡ admitted.text → Went m.saved.profile (shuffles_around id span m) (record n { saved = saved }) work done
-  around_went profile saved work admitted done under free several is room nothing same adds written = record {
+      → done.text ≡ admitted.text → CanKeep done
+      → Went m.saved.profile (shuffles_around id span m) (record n { saved = saved }) work done
+  around_went profile saved work admitted done under free several is room nothing same adds written can = record {
     meaning = does [] (shuffle_ops id span m.saved) m.player m;
     means = around_means id span m free several;
     stands = moved saved is;
@@ -66,4 +67,5 @@ module _ (id at : ℕ) (span : Span) (m n : MachineState) (stands : n ≡ record
       fits = adds.fits;
     };
     room = subst (λ (t : Vec ℕ). vec_len t + command_room ≤ vec_capacity t) (sym (written ∙ same)) room;
+    keeps = λ could. can;
   }

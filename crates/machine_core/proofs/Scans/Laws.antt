@@ -24,30 +24,29 @@ use Rattle.state_codec.specs.declared.op.Op.{Op}
 use Rattle.state_codec.specs.declared.op.Op.TheVariants.{Batch}
 use Rattle.state_codec.proofs.OpsUnchanged.{op_refused}
 use Rattle.stickers.specs.Sticker.{Sticker}
-use Rattle.machine_core.specs.Before.{before_of, changed_since, is_of_lists}
+use Rattle.machine_core.specs.Before.{before_of, changed_since, is_of_lists, keeps_job}
 use Rattle.machine_core.specs.Changed.{same_job, same_lists, same_options, same_playing, same_stickers, changed}
 use Rattle.machine_core.specs.Followed.{Following, current_row, cut_to, follows_batch, no_block, of_step, step_as_they_leave}
 use Rattle.player_core.specs.Player.{PlayerState}
 use Rattle.machine_core.specs.Happening.{HasHappened, nothing_happens}
 use Rattle.machine_core.specs.Meaning.{order_ops}
 use Rattle.machine_core.specs.Size.{max_request_bytes}
-use Rattle.machine_core.specs.Scanning.{is_running, over, found_a_change, when_scanned, kept_changes, telling, changes_rows, finds, when_found}
+use Rattle.machine_core.specs.Scanning.{after_job, is_running, found_a_change, when_scanned, kept_changes, telling, changes_rows, finds, when_found}
 use Rattle.machine_core.specs.State.{MachineState}
 use Rattle.machine_core.specs.declared.changed.Before.{Before}
 use Rattle.machine_core.specs.declared.happened.Happened.{Happened}
 use Rattle.machine_core.proofs.Sizes.{none_short}
 use Rattle.machine_core.proofs.SameParts.{lists_decide, stickers_decide, text_itself, told_same}
 
--- where playlists and the job's place stay, the values of before tell what changed
-pub event_told : (m n : MachineState) (before : Before) (ops : List Op) (stuck : Bool) → before ≡ before_of m
-    → list_any is_of_lists ops ≡ false → n.saved.lists ≡ m.saved.lists → n.job.place ≡ m.job.place
-    → stuck ≡ not (same_stickers m.saved.stickers n.saved.stickers)
-    → record (changed_since before ops n) { sticker = stuck } ≡ changed m n
+-- where playlists stay, the values of before tell what changed but the job
+told_but_job : (m n : MachineState) (before : Before) (ops : List Op) (stuck update : Bool) → before ≡ before_of m
+    → list_any is_of_lists ops ≡ false → n.saved.lists ≡ m.saved.lists → stuck ≡ not (same_stickers m.saved.stickers n.saved.stickers)
+    → record (changed_since before ops n) { update = update; sticker = stuck } ≡ record (changed m n) { update = update }
 unfolding changed
-event_told m n before ops stuck is no_list lists place stickers =
-    ap (λ (b : Before). record (changed_since b ops n) { sticker = stuck }) is ∙ (λ i. record {
+told_but_job m n before ops stuck update is no_list lists stickers =
+    ap (λ (b : Before). record (changed_since b ops n) { update = update; sticker = stuck }) is ∙ (λ i. record {
       database = false;
-      update = not (job i);
+      update = update;
       stored_playlist = told i;
       playlist = not (m.saved.queue.version == n.saved.queue.version);
       player = not (same_playing m.player n.player);
@@ -58,19 +57,30 @@ event_told m n before ops stuck is no_list lists place stickers =
       message = false;
     })
   where
+    told : list_any is_of_lists ops ≡ not (same_lists m.saved.lists n.saved.lists)
+    told = no_list ∙ sym (told_same m.saved.lists n.saved.lists _ (lists_decide m.saved.lists n.saved.lists) (sym lists))
+
+-- and where its place stays, the job too
+pub event_told : (m n : MachineState) (before : Before) (ops : List Op) (stuck : Bool) → before ≡ before_of m
+    → list_any is_of_lists ops ≡ false → n.saved.lists ≡ m.saved.lists → n.job.place ≡ m.job.place
+    → stuck ≡ not (same_stickers m.saved.stickers n.saved.stickers)
+    → record (changed_since before ops n) { sticker = stuck } ≡ changed m n
+unfolding changed
+event_told m n before ops stuck is no_list lists place stickers =
+    told_but_job m n before ops stuck (not (keeps_job before n)) is no_list lists stickers
+    ∙ ap (λ (b : Before). record (changed m n) { update = not (keeps_job b n) }) is
+    ∙ ap (λ (same : Bool). record (changed m n) { update = not same }) job
+  where
     same_place : option_eq bytes_eq m.job.place n.job.place ≡ true
     same_place = ap (option_eq bytes_eq m.job.place) place ∙ text_itself m.job.place
 
     job : (m.job.number == n.job.number && same_flag m.job.runs n.job.runs) ≡ same_job m.job n.job
     job = sym (ap (λ (t : Bool). m.job.number == n.job.number && (t && same_flag m.job.runs n.job.runs)) same_place)
 
-    told : list_any is_of_lists ops ≡ not (same_lists m.saved.lists n.saved.lists)
-    told = no_list ∙ sym (told_same m.saved.lists n.saved.lists _ (lists_decide m.saved.lists n.saved.lists) (sym lists))
-
 -- the end of a scan
 pub scan_ended : (job : ℕ) (m n : MachineState) (before : Before) (happened : Happened) → is_running job m ≡ true
-    → n ≡ record m { job = over m.clock.now m.job } → before ≡ before_of m → happened.ops.items ≡ []
-    → happened.changed ≡ record (changed_since before [] n) { database = m.job.has_changed_a_row }
+    → n ≡ after_job m → before ≡ before_of m → happened.ops.items ≡ []
+    → happened.changed ≡ record (changed_since before [] n) { update = true; database = m.job.has_changed_a_row }
     → HasHappened (when_scanned job m) m n happened
 scan_ended job m n before happened running state is ops told = rw running (record {
   state = state;
@@ -80,13 +90,10 @@ scan_ended job m n before happened running state is ops told = rw running (recor
   fits = none_short m.saved.profile;
 })
   where
-    after_it : MachineState
-    after_it = record m { job = over m.clock.now m.job }
-
-    changes : changed_since before [] n ≡ changed m after_it
+    changes : record (changed_since before [] n) { update = true } ≡ record (changed m (after_job m)) { update = true }
     changes =
-        ap (changed_since before []) state
-        ∙ event_told m after_it before [] false is refl refl refl
+        ap (λ (k : MachineState). record (changed_since before [] k) { update = true }) state
+        ∙ told_but_job m (after_job m) before [] false true is refl refl
         (sym (told_same m.saved.stickers m.saved.stickers _ (stickers_decide m.saved.stickers m.saved.stickers) refl))
 
 -- a filter that leaves as many leaves all
@@ -113,7 +120,7 @@ filter_all test (x ∷ xs) same = of (test x) refl same (filter_all test xs) (fi
         absurd (omega (arith, long, few))
 
 -- how many stickers there are tells whether some went
-count_tells : (all : List Sticker) (uris : Uris)
+pub count_tells : (all : List Sticker) (uris : Uris)
     → not (length all == length (without_songs all uris)) ≡ not (same_stickers all (without_songs all uris))
 count_tells all uris = ap not (of (length all == length left) refl)
   where
@@ -159,20 +166,20 @@ batch_made changes m n next saved player is stands kept cut =
     ∙ ap (λ (s : SavedState). record m { saved = s; player = (follows_batch changes m).player; job = found_a_change m.job })
     (order_stands changes (of_step (step_as_they_leave no_block (drops_of changes) m)).order m.saved)
 
-no_list_op : (changes : List RowChange) (order : Option ℕ) → list_any is_of_lists (order_ops order ++ Batch changes ∷ []) ≡ false
+pub no_list_op : (changes : List RowChange) (order : Option ℕ) → list_any is_of_lists (order_ops order ++ Batch changes ∷ []) ≡ false
 no_list_op changes None = refl
 no_list_op changes (Some g) = refl
 
-lists_stay : (changes : List RowChange) (order : Option ℕ) (s : SavedState) → (done changes order s).lists ≡ s.lists
+pub lists_stay : (changes : List RowChange) (order : Option ℕ) (s : SavedState) → (done changes order s).lists ≡ s.lists
 lists_stay changes None s = refl
 lists_stay changes (Some g) s = refl
 
-stickers_left : (changes : List RowChange) (order : Option ℕ) (s : SavedState)
+pub stickers_left : (changes : List RowChange) (order : Option ℕ) (s : SavedState)
     → (done changes order s).stickers ≡ without_songs s.stickers (drops_of changes)
 stickers_left changes None s = refl
 stickers_left changes (Some g) s = refl
 
-rebuilt_by : (changes : List RowChange) (order : Option ℕ) (s : SavedState) → refusal_of (Batch changes) s ≡ None
+pub rebuilt_by : (changes : List RowChange) (order : Option ℕ) (s : SavedState) → refusal_of (Batch changes) s ≡ None
     → all_applied (order_ops order ++ Batch changes ∷ []) s ≡ Some (done changes order s)
 rebuilt_by changes None s free =
     ap (λ r. result_ok (ok_or (unless_op_refused r (after (Batch changes) s)) 0 >>= λ t. applied_from 1 [] t)) free

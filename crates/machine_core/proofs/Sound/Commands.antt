@@ -22,6 +22,7 @@ use Rattle.machine_core.specs.Sound.{IsSoundPlayer, IsSound}
 use Rattle.machine_core.specs.State.{MachineState, settings_of}
 use Rattle.machine_core.specs.Steps.{current_length, puts}
 use Rattle.machine_core.proofs.CommandForms.{KeptBy, OfForms, Turn, command_so, turned}
+use Rattle.machine_core.proofs.ListMoves.{together_sound}
 use Rattle.machine_core.proofs.Shuffling.{shuffled_sound, stopped_sound}
 use Rattle.machine_core.proofs.Sound.Forms.{batch_sound, edited_sound, moves_sound, puts_sound, steps_sound}
 use Rattle.machine_core.proofs.Sound.Playing.{previous_sound, sought_here_sound, halted_sound, ended_sound, failed_sound}
@@ -46,9 +47,11 @@ forms_sound = record {
   says = λ text m sound. sound;
   edits = λ op text m fits free other. edited_sound op text m free;
   replaces = λ name m free other sound. sound;
+  together = λ ops m free other. together_sound ops m;
   shuffles = shuffled_sound;
   stops = stopped_sound;
   begins = λ job text m own sound. sound;
+  waits = λ job text m sound. sound;
   moves = λ step m knows. moves_sound step m;
   turns = turn_sound;
 }

@@ -25,6 +25,7 @@ use Rattle.machine_core.specs.Steps.{moves, puts, step_in}
 use Rattle.machine_core.specs.declared.steps.PlayerStep.{PlayerStep}
 use Rattle.machine_core.specs.declared.steps.PlayerStep.TheVariants as steps
 use Rattle.machine_core.proofs.CommandForms.{KeptBy, KnowsLength, OfForms, Turn, command_so, turned}
+use Rattle.machine_core.proofs.ListMoves.{together_holds}
 use Rattle.machine_core.proofs.Sound.Commands.{turn_sound, when_fed_sound, when_found_sound}
 use Rattle.machine_core.proofs.Shuffling.{shuffled_holds, stopped_holds}
 use Rattle.machine_core.proofs.Sound.Frame.{FrameWithin}
@@ -61,9 +62,11 @@ forms_hold = record {
   says = λ text m holds. holds;
   edits = λ op text m fits free other. edited_holds op text m free;
   replaces = λ name m free other holds. record { queue = holds.queue; sound = holds.sound; frame = holds.frame };
+  together = λ ops m free other. together_holds ops m;
   shuffles = shuffled_holds;
   stops = stopped_holds;
   begins = λ job text m own holds. record { queue = holds.queue; sound = holds.sound; frame = holds.frame };
+  waits = λ job text m holds. record { queue = holds.queue; sound = holds.sound; frame = holds.frame };
   moves = move_holds;
   turns = turn_holds;
 }

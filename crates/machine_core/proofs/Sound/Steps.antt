@@ -247,7 +247,7 @@ stays_test test block dropped entries current place at stays passes =
     sym (ap (λ found. option_map_or (takes block dropped place.0) found false) at.stands) ∙ stays in
     stays_has test block dropped 0 place.0 place.0 entries entry (omega arith) at.stands not_taken passes
 
-stays_current : (block : Block) (dropped : Uris) (entries : List Entry) (current : Option ℕ) (place : ℕ × ℕ) → IsAt entries current place
+pub stays_current : (block : Block) (dropped : Uris) (entries : List Entry) (current : Option ℕ) (place : ℕ × ℕ) → IsAt entries current place
     → takes_at block dropped entries place.0 ≡ false → IsIn (all_staying block dropped entries) place.1
 stays_current block dropped entries current place at stays =
     stays_test (λ entry. entry.id == place.1) block dropped entries current place at stays

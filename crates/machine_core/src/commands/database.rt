@@ -7,23 +7,26 @@ ghost use Rattle.command_text.specs.AnswerStatus.{job_line};
 ghost use Rattle.profile.specs.Profile.{tags_of};
 ghost use Rattle.profile.specs.declared.profile.Profile.TheVariants.{Named, Wide};
 ghost use Rattle.song_db.specs.Change.{has_uri};
+ghost use Rattle.song_db.specs.Place.{place_of};
 ghost use Rattle.song_db.specs.Query.{is_folder, values_of};
 ghost use Rattle.song_db.specs.Row.{row_at};
 ghost use Rattle.song_db.specs.ToldWalk.{told_folders_in, told_songs_in};
 ghost use Rattle.song_files.specs.TagSet.{tags_in};
 ghost use Rattle.song_files.specs.declared.tag.Tag.TheVariants.{Album, Artist};
 ghost use Rattle.machine_core.specs.Database.{database_meaning, begins_job, folder_info, info_at, all_at, all_below, root_lists};
-ghost use Rattle.machine_core.specs.Database.{shown_type, statistics, time_lines};
+ghost use Rattle.machine_core.specs.Database.{busy, files_in, may_wait, next_number, shown_type, statistics, time_lines, waits_for_job};
+ghost use Rattle.machine_core.specs.Lent.{lent};
 ghost use Rattle.machine_core.specs.Meaning.{answers, says};
-ghost use Rattle.machine_core.specs.Memory.{database_takes_memory};
+ghost use Rattle.machine_core.specs.Memory.{database_takes_memory, takes_a_job};
 ghost use Rattle.machine_core.specs.Work.{HasRoom, Performs, command_room};
 
 use crate::answer::write_content;
 use crate::answer_database::{
-    Detail, write_below, write_detail, write_tag_types, write_told_content, write_walk,
+    Detail, write_below, write_detail, write_names_in, write_tag_types, write_told_content,
+    write_walk,
 };
 use crate::answer_lists::write_root_lists;
-use crate::job::Job;
+use crate::job::{Job, MAX_WAITING_JOBS, WaitingJob, next_job};
 use crate::machine::Machine;
 use crate::work::{Failure, Work};
 use command_text::{
@@ -41,6 +44,26 @@ fn path_or_root<'a>(path: &'a Option<Text<'_>>) -> &'a str
     match path {
         Some(path) => path.as_str(),
         None => "",
+    }
+}
+
+// Whether a job may wait beside one that runs.
+fn may_wait(profile: Profile, waiting: &[WaitingJob]) -> bool
+    ensures { result ≡ may_wait profile waiting.now }
+{
+    match profile {
+        Profile::Named => false,
+        Profile::Wide => waiting.len() < MAX_WAITING_JOBS,
+    }
+}
+
+// Why it may not.
+fn busy(profile: Profile) -> CommandRefusal
+    ensures { result ≡ busy profile }
+{
+    match profile {
+        Profile::Named => CommandRefusal::AlreadyUpdating,
+        Profile::Wide => CommandRefusal::UpdatesFull,
     }
 }
 
@@ -79,6 +102,9 @@ impl Machine {
             }
             DatabaseCommand::ListAllInfo(path) => {
                 self.list_all(path_or_root(&path), Detail::Songs(mask), work)
+            }
+            DatabaseCommand::ListFiles(path) => {
+                self.list_folder_files(path_or_root(&path), work)
             }
             DatabaseCommand::ListInfo(path) => {
                 self.list_info(alloc, mask, path_or_root(&path), work)
@@ -149,7 +175,7 @@ impl Machine {
         }
     }
 
-    // `update` and `rescan`, which opens every file: a job begins, unless one runs.
+    // `update` and `rescan`, which opens every file: a job begins, or waits where one runs.
     fn begin_job(
         &mut self,
         place: Option<Uri>,
@@ -158,15 +184,51 @@ impl Machine {
     ) -> Result<(), Failure>
         requires { HasRoom command_room work.old }
         ensures performs { Performs (begins_job place opens_all self.old) self.old self.new work.old work.new result }
-        ensures memory { result ≡ Err Failure.NoMemory → not self.old.job.runs ≡ true }
+        ensures memory { result ≡ Err Failure.NoMemory → takes_a_job self.old ≡ true }
     {
         if self.job.runs {
-            return Err(Failure::Refused(CommandRefusal::AlreadyUpdating));
+            return self.queue_job(place, opens_all, work);
         }
-        let number = self.job.next_number();
+        let number = next_job(self.job.number);
         self.tell_job(number, work)?;
         self.job = Job::begun(number, place, opens_all, self.clock.now);
         Ok(())
+    }
+
+    // Beside a job that runs: another waits for its turn.
+    fn queue_job(
+        &mut self,
+        place: Option<Uri>,
+        opens_all: bool,
+        work: &mut Work,
+    ) -> Result<(), Failure>
+        requires { HasRoom command_room work.old }
+        ensures performs { Performs (waits_for_job place opens_all self.old) self.old self.new work.old work.new result }
+        ensures memory { result ≡ Err Failure.NoMemory → may_wait self.old.saved.profile self.old.waiting ≡ true }
+    {
+        let profile = self.saved.profile();
+        if !may_wait(profile, &self.waiting) {
+            return Err(Failure::Refused(busy(profile)));
+        }
+        let number = self.next_number();
+        self.waiting.reserve(1)?;
+        self.tell_job(number, work)?;
+        self.waiting.push_reserved(WaitingJob {
+            number,
+            place,
+            opens_all,
+        });
+        Ok(())
+    }
+
+    // The number of the job that is asked for next.
+    fn next_number(&self) -> u32
+        ensures { result ≡ next_number self.now }
+    {
+        match self.waiting.last() {
+            Some(job) => next_job(job.number),
+            None => next_job(self.job.number),
+        }
     }
 
     fn tell_job(&self, number: u32, work: &mut Work) -> Result<(), Failure>
@@ -226,6 +288,25 @@ impl Machine {
         };
         let mark = work.text.len();
         let written = write_below(&mut work.text, place, walk, detail);
+        work.keep(mark, written)
+    }
+
+    // `listfiles`: what stands right in the folder of a path by its names.
+    fn list_folder_files(&self, path: &str, work: &mut Work) -> Result<(), Failure>
+        ensures { Performs (answers (files_in self.now.saved.songs (place_of (lent path.now))) self.now) self.now self.now
+            work.old work.new result }
+    {
+        self.list_names_in(Place::read(path), work)
+    }
+
+    fn list_names_in(&self, place: Place<'_>, work: &mut Work) -> Result<(), Failure>
+        ensures { Performs (answers (files_in self.now.saved.songs place.entry) self.now) self.now self.now work.old work.new result }
+    {
+        let Ok(rows) = self.saved.songs().told_under(place) else {
+            return Err(Failure::Refused(CommandRefusal::NoSuchUri));
+        };
+        let mark = work.text.len();
+        let written = write_names_in(&mut work.text, rows, place);
         work.keep(mark, written)
     }
 

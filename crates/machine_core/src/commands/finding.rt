@@ -4,12 +4,11 @@ ghost use Rattle.std.specs.Option.{option_copied};
 ghost use Rattle.command_text.specs.Masks.{all_in_mask};
 ghost use Rattle.command_text.specs.declared.command.finding.FindingCommand.TheVariants.{Add, AddToPlaylist, Count, CountGroups, Find};
 ghost use Rattle.command_text.specs.declared.command.finding.FindingCommand.TheVariants.{InQueue, ListFiles, ListGroups, ListTag};
-ghost use Rattle.filter_expr.specs.declared.case.Case.TheVariants.{Exact, Folded};
+ghost use Rattle.filter_expr.specs.declared.case.Case.TheVariants.{Exact};
 ghost use Rattle.profile.specs.declared.profile.Profile.TheVariants.{Named};
 ghost use Rattle.song_db.specs.Duration.{total_of};
 ghost use Rattle.song_db.specs.Limits.{MAX_ROWS};
 ghost use Rattle.machine_core.specs.Finding.{finding_meaning, matching, found, in_window, numbers_in};
-ghost use Rattle.machine_core.specs.Ordered.{rows_told};
 ghost use Rattle.machine_core.specs.Work.{HasRoom, Performs, command_room};
 
 use super::lists::list_name;
@@ -18,8 +17,9 @@ use crate::machine::Machine;
 use crate::named::row_numbers;
 use crate::work::{Failure, Work};
 use command_text::{FindingCommand, NoMemory, Search, TagList, TagMask, Window, write_counts};
+use entries::{entries_in_window, ordered_entries, write_entry_rows};
 use filter_expr::{Case, Filter, window};
-use gathering::{all_numbers, matching_rows, numbers_by_uri, numbers_of, ordered_rows, rows_told};
+use gathering::{matching_rows, numbers_by_uri, numbers_of, ordered_rows};
 use groups::{Within, chosen_numbers, write_group_counts, write_groups};
 use play_queue::Target;
 use profile::Profile;
@@ -28,8 +28,9 @@ use song_files::Tag;
 use state_codec::{ListOp, Op, RowNumbers};
 use std::alloc::Global;
 use values::chosen_values;
-use writing::{write_by_uri, write_chosen_files, write_entries, write_values};
+use writing::{write_by_uri, write_chosen_files, write_values};
 
+mod entries;
 mod gathering;
 mod groups;
 mod part;
@@ -86,17 +87,15 @@ impl Machine {
     {
         match command {
             FindingCommand::Add(search, to) => self.add_found(alloc, search, *to, work),
-            FindingCommand::AddToPlaylist(name, filter) => {
-                self.add_to_playlist(alloc, name.as_str(), filter, work)
+            FindingCommand::AddToPlaylist(name, search) => {
+                self.add_to_playlist(alloc, name.as_str(), search, work)
             }
             FindingCommand::Count(filter) => self.count(alloc, filter, work),
             FindingCommand::CountGroups(tag, filter) => {
                 self.count_groups(alloc, *tag, filter.as_ref(), work)
             }
             FindingCommand::Find(search) => self.find(alloc, mask, search, work),
-            FindingCommand::InQueue(case, filter) => {
-                self.find_entries(alloc, mask, *case, filter, work)
-            }
+            FindingCommand::InQueue(search) => self.find_entries(alloc, mask, search, work),
             FindingCommand::ListFiles(filter) => self.list_files(alloc, filter.as_ref(), work),
             FindingCommand::ListGroups(tags, filter) => {
                 self.list_groups(alloc, tags, filter.as_ref(), work)
@@ -187,15 +186,15 @@ impl Machine {
         &mut self,
         alloc: Global,
         name: &str,
-        filter: &Filter,
+        search: &Search,
         work: &mut Work,
     ) -> Result<(), Failure>
         requires { HasRoom command_room work.old }
-        ensures { Performs (finding_meaning all_in_mask (AddToPlaylist name.now filter.now) self.old) self.old self.new work.old work.new
+        ensures { Performs (finding_meaning all_in_mask (AddToPlaylist name.now search.now) self.old) self.old self.new work.old work.new
             result }
     {
         let name = list_name(alloc, name)?;
-        let rows = folded_numbers(alloc, self.saved.profile(), self.saved.songs(), filter)?;
+        let rows = found_numbers(alloc, self.saved.profile(), self.saved.songs(), search)?;
         self.edit(alloc, Op::List(ListOp::Add { name, rows }), work)
     }
 
@@ -204,16 +203,20 @@ impl Machine {
         &self,
         alloc: Global,
         mask: TagMask,
-        case: Case,
-        filter: &Filter,
+        search: &Search,
         work: &mut Work,
     ) -> Result<(), Failure>
-        ensures { Performs (finding_meaning mask (InQueue case filter.now) self.now) self.now self.now work.old work.new result }
+        ensures { Performs (finding_meaning mask (InQueue search.now) self.now) self.now self.now work.old work.new result }
     {
         let songs = self.saved.songs();
         let entries = self.saved.queue().entries();
+        let ordered = ordered_entries(alloc, songs, entries, search)?;
         let mark = work.text.len();
-        let written = write_entries(&mut work.text, alloc, mask, songs, entries, case, filter);
+        let written = write_entry_rows(
+            &mut work.text,
+            mask,
+            entries_in_window(&ordered, search.window),
+        );
         work.keep(mark, written)
     }
 
@@ -333,29 +336,6 @@ fn found_numbers(
         _ => {
             let ordered = ordered_rows(alloc, profile, songs, search)?;
             let numbers = numbers_of(alloc, songs, windowed(&ordered, search.window))?;
-            Ok(row_numbers(numbers))
-        }
-    }
-}
-
-// The numbers of all rows that match, whatever the case of letters.
-fn folded_numbers(
-    alloc: Global,
-    profile: Profile,
-    songs: &SongDb,
-    filter: &Filter,
-) -> Result<RowNumbers, NoMemory>
-    ensures { IfOk result (λ numbers. numbers ≡ numbers_in songs.now (matching Folded filter.now (rows_told profile songs.now))) }
-{
-    let _limit = songs.len();
-    match profile {
-        Profile::Named => {
-            let numbers = all_numbers(alloc, songs, Case::Folded, filter)?;
-            Ok(row_numbers(numbers))
-        }
-        Profile::Wide => {
-            let told = rows_told(alloc, profile, songs, Case::Folded, filter)?;
-            let numbers = numbers_of(alloc, songs, &told)?;
             Ok(row_numbers(numbers))
         }
     }

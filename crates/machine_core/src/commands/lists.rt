@@ -3,7 +3,8 @@ ghost use Rattle.std.specs.Prelude.{◌≡◌, ◌≤◌, length, Ok, IfOk, IfEr
 ghost use Rattle.command_text.specs.Masks.{all_in_mask};
 ghost use Rattle.command_text.specs.declared.command.lists.ListsCommand.TheVariants as commands;
 ghost use Rattle.stored_lists.specs.Limits.{MAX_ENTRIES};
-ghost use Rattle.machine_core.specs.Lists.{lists_meaning, list_name, songs_named, rows_to_load};
+ghost use Rattle.command_text.specs.declared.range.PositionRange.TheVariants.{One};
+ghost use Rattle.machine_core.specs.Lists.{lists_meaning, list_name, moves_in, moves_range, songs_named, rows_to_load};
 ghost use Rattle.machine_core.specs.Named.{Finds, IsNotFound};
 ghost use Rattle.machine_core.specs.Work.{HasRoom, Performs, command_room};
 
@@ -20,6 +21,8 @@ use state_codec::{ListOp, Op, OpRefusal, RowNumbers, Text};
 use std::alloc::Global;
 use stored_lists::{Lists, Songs, is_good_name};
 
+mod moving;
+
 impl Machine {
     #[tactic(auto, unfolding(crate::specs::Lists::lists_meaning))]
     pub(super) fn perform_lists(
@@ -33,8 +36,8 @@ impl Machine {
         ensures { Performs (lists_meaning mask command.entry self.old) self.old self.new work.old work.new result }
     {
         match command {
-            ListsCommand::Add(name, path) => {
-                self.add_to_list(alloc, name.as_str(), path.as_str(), work)
+            ListsCommand::Add(name, path, to) => {
+                self.add_to_list(alloc, name.as_str(), path.as_str(), to, work)
             }
             ListsCommand::Clear(name) => self.clear_list(alloc, name.as_str(), work),
             ListsCommand::Delete(name, range) => {
@@ -43,8 +46,8 @@ impl Machine {
             ListsCommand::Load(name, range, to) => {
                 self.load_list(alloc, name.as_str(), range, to, work)
             }
-            ListsCommand::Move(name, from, to) => {
-                self.move_in_list(alloc, name.as_str(), from, to, work)
+            ListsCommand::Move(name, range, to) => {
+                self.move_in_list(alloc, name.as_str(), range, to, work)
             }
             ListsCommand::Names => self.list_names(work),
             ListsCommand::Remove(name) => self.remove_list(alloc, name.as_str(), work),
@@ -63,15 +66,16 @@ impl Machine {
         alloc: Global,
         name: &str,
         path: &str,
+        to: Option<u32>,
         work: &mut Work,
     ) -> Result<(), Failure>
         requires { HasRoom command_room work.old }
-        ensures { Performs (lists_meaning all_in_mask (commands.Add name.now path.now) self.old) self.old self.new work.old work.new
-            result }
+        ensures { Performs (lists_meaning all_in_mask (commands.Add name.now path.now to) self.old) self.old self.new work.old
+            work.new result }
     {
         let name = list_name(alloc, name)?;
         let rows = self.rows_named(alloc, path)?;
-        self.edit(alloc, Op::List(ListOp::Add { name, rows }), work)
+        self.add_songs(alloc, name, rows, to, work)
     }
 
     fn clear_list(&mut self, alloc: Global, name: &str, work: &mut Work) -> Result<(), Failure>
@@ -127,16 +131,52 @@ impl Machine {
         &mut self,
         alloc: Global,
         name: &str,
+        range: PositionRange,
+        to: u32,
+        work: &mut Work,
+    ) -> Result<(), Failure>
+        requires { HasRoom command_room work.old }
+        ensures { Performs (moves_in name.now range to self.old) self.old self.new work.old work.new result }
+    {
+        match range {
+            PositionRange::One(from) => self.move_one_in_list(alloc, name, from, to, work),
+            PositionRange::From(_) | PositionRange::Between(_, _) => {
+                self.move_range_in_list(alloc, name, range, to, work)
+            }
+        }
+    }
+
+    fn move_one_in_list(
+        &mut self,
+        alloc: Global,
+        name: &str,
         from: u32,
         to: u32,
         work: &mut Work,
     ) -> Result<(), Failure>
         requires { HasRoom command_room work.old }
-        ensures { Performs (lists_meaning all_in_mask (commands.Move name.now from to) self.old) self.old self.new work.old work.new
-            result }
+        ensures { Performs (moves_in name.now (One from) to self.old) self.old self.new work.old work.new result }
     {
         let name = list_name(alloc, name)?;
         self.edit(alloc, Op::List(ListOp::Move { name, from, to }), work)
+    }
+
+    fn move_range_in_list(
+        &mut self,
+        alloc: Global,
+        name: &str,
+        range: PositionRange,
+        to: u32,
+        work: &mut Work,
+    ) -> Result<(), Failure>
+        requires { HasRoom command_room work.old }
+        ensures { Performs (moves_range name.now range to self.old) self.old self.new work.old work.new result }
+    {
+        let songs = songs_named(self.saved.lists(), name)?;
+        let length = songs.len() as u32;
+        let block = span_in(range, length)?;
+        let name = list_name(alloc, name)?;
+        self.move_block_in_list(alloc, &name, block, to, length, work)
     }
 
     fn remove_list(&mut self, alloc: Global, name: &str, work: &mut Work) -> Result<(), Failure>

@@ -1,6 +1,6 @@
-// The job that a request began: what its scan finds is reported right behind the request.
-ghost use Rattle.std.specs.Prelude.{[], OnOk};
-ghost use Rattle.mpd_program.specs.Console.{IsRunning, RunsNone};
+// The jobs that a request began: what their scans find is reported right behind the request.
+ghost use Rattle.std.specs.Prelude.{◌≡◌, ◌<◌, [], OnOk};
+ghost use Rattle.mpd_program.specs.Console.{IsRunning, RunsNone, jobs_left};
 ghost use Rattle.mpd_program.specs.Serving.{IsUsable, Serves};
 
 use super::Ending;
@@ -15,18 +15,30 @@ use std::alloc::Global;
 use std::io::Write;
 
 impl<D: Disk, F: Folder, W: Write> Service<'_, '_, '_, D, F, W> {
-    // Reads for the job that runs, if one runs: each batch of changes is an event, and the end of the scan is one.
-    pub(super) fn serve_job(&mut self) -> Result<(), Ending>
+    // Reads for the jobs that run, one after the other, until none does.
+    pub(super) fn serve_jobs(&mut self) -> Result<(), Ending>
         requires { IsUsable self.old }
         ensures served { Serves D.honest D.history D.faults W.contents [] self.old self.new result }
         ensures idle { OnOk result (RunsNone self.new.live.state.machine.job) }
     {
-        // Where the order finds no memory, nobody can tell which job runs, so that its end can't be reported.
-        let order = match self.live.scan_order(self.alloc) {
-            Ok(Some(order)) => order,
-            Ok(None) => return Ok(()),
-            Err(error) => return Err(ending_of(error)),
-        };
+        'jobs: loop {
+            // Where the order finds no memory, nobody can tell which job runs, so that its end can't be reported.
+            let order = match self.live.scan_order(self.alloc) {
+                Ok(Some(order)) => order,
+                Ok(None) => return Ok(()),
+                Err(error) => return Err(ending_of(error)),
+            };
+            self.serve_job(order)?;
+        }
+    }
+
+    // Reads for the job of this order: each batch of changes is an event, and the end of the scan is one.
+    fn serve_job(&mut self, order: ScanOrder) -> Result<(), Ending>
+        requires usable { IsUsable self.old }
+        requires running { IsRunning order.job self.old.live.state.machine.job }
+        ensures served { Serves D.honest D.history D.faults W.contents [] self.old self.new result }
+        ensures fewer { OnOk result (jobs_left self.new.live.state.machine < jobs_left self.old.live.state.machine) }
+    {
         let job = order.job();
         self.serve_changes(order)?;
         self.serve_event(Event::ScanDone { job })
@@ -39,6 +51,7 @@ impl<D: Disk, F: Folder, W: Write> Service<'_, '_, '_, D, F, W> {
         requires running { IsRunning order.job self.old.live.state.machine.job }
         ensures served { Serves D.honest D.history D.faults W.contents [] self.old self.new result }
         ensures running { OnOk result (IsRunning order.job self.new.live.state.machine.job) }
+        ensures waiting { OnOk result (self.new.live.state.machine.waiting ≡ self.old.live.state.machine.waiting) }
     {
         let job = order.job();
         let mut scan = match Scan::begin(self.alloc, order.with_rules(self.rules)) {

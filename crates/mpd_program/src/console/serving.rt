@@ -87,7 +87,7 @@ impl<D: Disk, F: Folder, W: Write> Service<'_, '_, '_, D, F, W> {
         }
     }
 
-    // Handles a request, and then reads for the job that it began, if it began one.
+    // Handles a request, and then reads for the jobs that it began, if it began any.
     fn serve_request(&mut self, request: Request) -> Result<(), Ending>
         requires { IsReady self.old }
         ensures served { Serves D.honest D.history D.faults W.contents (asked (Event.Request self.old.client request))
@@ -97,7 +97,7 @@ impl<D: Disk, F: Folder, W: Write> Service<'_, '_, '_, D, F, W> {
         let event = Event::Request(self.client, request);
         self.tell_time()?;
         self.serve_event(event)?;
-        self.serve_job()
+        self.serve_jobs()
     }
 
     // Handles requests one after the other. What is behind one that closes the client isn't served.

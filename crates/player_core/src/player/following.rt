@@ -2,7 +2,7 @@
 ghost use Rattle.std.specs.Prelude.{◌≡◌, ◌<◌, length, IsOkUnless, OnErr};
 ghost use Rattle.player_core.specs.Answered.{OnStep};
 ghost use Rattle.player_core.specs.Player.{left_out, stopped_without_song};
-ghost use Rattle.player_core.specs.Reports.{takes_at, gone_on_without, gone_in_pause, followed};
+ghost use Rattle.player_core.specs.Reports.{gone_on_without, gone_in_pause, followed};
 
 use super::Player;
 use crate::block::Block;
@@ -16,19 +16,9 @@ use crate::playing::PlayState;
 use crate::refusal::PlayerError;
 use crate::removal::leave;
 use crate::settings::PlaySettings;
-use crate::staying::takes;
+use crate::staying::takes_at;
 use play_queue::Entries;
 use song_db::Uri;
-
-// Whether the entry at a position leaves.
-fn takes_at(block: Block, dropped: &[Uri], entries: &Entries, at: usize) -> bool
-    ensures { result ≡ takes_at block dropped.now entries.now at }
-{
-    match entries.get(at) {
-        Some(entry) => takes(block, dropped, at, &entry),
-        None => false,
-    }
-}
 
 impl Player {
     /// Entries leave the queue: those of a block, and those of dropped URIs; `entries` is the queue before.

@@ -9,8 +9,8 @@ use crate::refusal::PlayerError;
 use crate::seek::frame_after;
 
 impl Player {
-    // Whether a report with this ticket counts.
-    pub(super) fn counts(&self, ticket: u64) -> bool
+    /// Whether a report with this ticket counts.
+    pub fn counts(&self, ticket: u64) -> bool
         ensures { result ≡ counts self.now.state self.now.ticket ticket }
     {
         match self.playing.state {

@@ -15,6 +15,7 @@ ghost use Rattle.state_codec.specs.ReadingOps.{list_op_at, value_at, sticker_op_
 use crate::fields::{ReadError, Reader};
 use crate::layout::Layout;
 use crate::op::{ListOp, Op, OpRanges, QueueOp, RowNumbers, Setting, StickerOp, Text};
+use crate::reading::place::is_place_kind;
 use play_queue::Ranges;
 use std::alloc::Global;
 use stickers::StickerValue;
@@ -267,6 +268,7 @@ impl Reader<'_> {
             10..=16 => Ok(Op::List(self.list_op(alloc, kind)?)),
             17..=19 => Ok(Op::Sticker(self.sticker_op(alloc, kind)?)),
             20 => Ok(Op::Batch(self.changes(alloc, layout.profile)?)),
+            kind if is_place_kind(layout.profile, kind) => Ok(Op::Place(self.place_op(kind)?)),
             _ => Err(fault),
         }
     }

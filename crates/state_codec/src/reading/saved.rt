@@ -1,10 +1,9 @@
 // The reading of the head of a snapshot, its rows and the whole.
-ghost use Rattle.std.specs.Prelude.{◌≡◌, ◌+◌, ◌≤◌, ◌==◌, [], IfOk, IsTrue};
+ghost use Rattle.std.specs.Prelude.{◌≡◌, ◌+◌, ◌≤◌, [], IfOk, IsTrue};
 ghost use Rattle.std.specs.Int.{IsInRange};
 ghost use Rattle.play_queue.specs.Limits.{MAX_ID, MAX_VERSION};
 ghost use Rattle.song_db.specs.Last.{ends_before};
 ghost use Rattle.song_db.specs.Limits.{MAX_ROWS};
-ghost use Rattle.state_codec.specs.Fields.{such, byte_at};
 ghost use Rattle.state_codec.specs.Given.{Gives, GivesParts};
 ghost use Rattle.state_codec.specs.Items.{items_at};
 ghost use Rattle.state_codec.specs.Layout.{IsLayout};
@@ -165,20 +164,8 @@ impl Reader<'_> {
             queue,
             lists,
             stickers,
+            place: None,
         })
-    }
-
-    // The fields behind the parts: as yet there is none.
-    #[tactic(auto, unfolding(crate::specs::Fields::such))]
-    fn no_fields(&mut self) -> Result<u8, ReadError>
-        ensures { Gives result self.new.rest.now (such (λ n. n == 0) byte_at self.old.rest.now) }
-    {
-        let fault = self.fault();
-        let count = self.byte()?;
-        if count != 0 {
-            return Err(fault);
-        }
-        Ok(count)
     }
 
     // The parts, and what stands behind them.
@@ -193,11 +180,14 @@ impl Reader<'_> {
         requires next_id { IsInRange 1 (MAX_ID + 1) header.next_id }
         ensures { GivesParts result self.new.rest.now (before_fields layout.profile (parts_at layout header self.old.rest.now)) }
     {
-        let parts = self.parts(alloc, layout, header)?;
-        if let Profile::Wide = layout.profile {
-            let _none = self.no_fields()?;
+        let mut parts = self.parts(alloc, layout, header)?;
+        match layout.profile {
+            Profile::Named => Ok(parts),
+            Profile::Wide => {
+                parts.place = Some(self.place(alloc)?);
+                Ok(parts)
+            }
         }
-        Ok(parts)
     }
 
     /// The state that the bytes spell, in front of their checksum.

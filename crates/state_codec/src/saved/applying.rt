@@ -3,17 +3,20 @@ ghost use Rattle.std.specs.Prelude.{◌≡◌, Some, None, OnOk, OnErr};
 ghost use Rattle.state_codec.specs.Applied.{refusal_of, after, applied};
 ghost use Rattle.state_codec.specs.Editing.{AnswersApply, IsEdit};
 ghost use Rattle.state_codec.specs.Ops.{IsOp};
+ghost use Rattle.state_codec.specs.OpsLists.{list_refusal};
 ghost use Rattle.state_codec.specs.OpsQueue.{queue_refusal};
 ghost use Rattle.state_codec.specs.OpsSettings.{with_setting};
 ghost use Rattle.state_codec.specs.SavedState.{IsSavedState};
 ghost use Rattle.state_codec.specs.Stored.{state_of};
-ghost use Rattle.state_codec.specs.declared.op.Op.TheVariants.{SetOption, SetOrder, Queue};
+ghost use Rattle.state_codec.specs.declared.op.Op.TheVariants.{SetOption, SetOrder, Queue, List as Lists};
+ghost use Rattle.state_codec.specs.declared.op.list_op.ListOp.TheVariants.{Move as MoveSong};
 ghost use Rattle.state_codec.specs.declared.op.queue_op.QueueOp.TheVariants.{Delete, Move};
 
+use super::placing::{change_place, check_place, leave_place};
 use super::{Saved, SavedParts};
-use crate::op::{Op, Setting};
+use crate::op::{Op, Setting, Text};
 use crate::refusal::ApplyError;
-use player_core::Options;
+use player_core::{Block, Options};
 use std::alloc::Global;
 
 impl Saved {
@@ -31,7 +34,17 @@ impl Saved {
         requires { queue_refusal (Delete start end) self.old ≡ None }
         ensures { self.new ≡ after (Queue (Delete start end)) self.old }
     {
-        let _ = self.parts.queue.delete_range(start as usize, end as usize);
+        let block = Block {
+            start: start as usize,
+            end: end as usize,
+        };
+        leave_place(
+            &mut self.parts.place,
+            self.parts.queue.entries(),
+            block,
+            &[],
+        );
+        let _ = self.parts.queue.delete_range(block.start, block.end);
     }
 
     /// Takes the entries from `start` up to, but not including, `end` out of the queue, and puts them back at a place of the rest, as the
@@ -44,6 +57,17 @@ impl Saved {
             .parts
             .queue
             .move_range(start as usize, end as usize, to as usize);
+    }
+
+    /// Takes the song at position `from` of a playlist out, and puts it back so that it stands at `to`, as the op does. It takes no memory.
+    pub fn move_song(&mut self, name: &Text, from: u32, to: u32)
+        requires { list_refusal (MoveSong name.now from to) self.old ≡ None }
+        ensures { self.new ≡ after (Lists (MoveSong name.now from to)) self.old }
+    {
+        let _ = self
+            .parts
+            .lists
+            .move_at(name.as_str(), from as usize, to as usize);
     }
 
     /// Sets an option, as the op does.
@@ -78,6 +102,10 @@ fn apply_to(parts: &mut SavedParts, alloc: Global, op: &Op) -> Result<(), ApplyE
         Op::List(op) => return parts.edit_list(alloc, op),
         Op::Sticker(op) => return parts.edit_sticker(alloc, op),
         Op::Batch(changes) => return parts.edit_rows(alloc, changes),
+        Op::Place(op) => {
+            check_place(parts.profile)?;
+            change_place(&mut parts.place, *op);
+        }
     }
     Ok(())
 }

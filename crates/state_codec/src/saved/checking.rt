@@ -20,6 +20,7 @@ ghost use Rattle.state_codec.specs.declared.refusal.OpRefusal.{OpRefusal as AnOp
 ghost use Rattle.state_codec.specs.declared.refusal.OpRefusal.TheVariants.{Queue, Lists, Stickers};
 
 use super::batch::check_changes;
+use super::placing::{check_place, leaves_place};
 use super::telling::{adds_nothing, changes_rows, has_no_songs, has_value, is_set};
 use super::{Saved, SavedParts};
 use crate::op::{Changes, ListOp, Op, QueueOp, StickerOp};
@@ -48,6 +49,10 @@ impl Saved {
             Op::List(op) => check_list(parts, op),
             Op::Sticker(op) => check_sticker(parts, op),
             Op::Batch(changes) => check_batch(parts, changes),
+            Op::Place(op) => {
+                check_place(parts.profile)?;
+                Ok(!leaves_place(*op, parts.place.as_ref()))
+            }
         }
     }
 }

@@ -1,6 +1,6 @@
 // The parts of a saved state, each by a name.
 use play_queue::Queue;
-use player_core::{Options, Volume};
+use player_core::{Options, Place, Volume};
 use profile::Profile;
 use song_db::SongDb;
 use stickers::Stickers;
@@ -21,4 +21,6 @@ pub struct SavedParts {
     pub queue: Queue,
     pub lists: Lists,
     pub stickers: Stickers,
+    /// Where the player was: under the wide profile alone.
+    pub place: Option<Place>,
 }

@@ -7,14 +7,15 @@ ghost use Rattle.state_codec.specs.Ops.{IsQueueOp};
 ghost use Rattle.state_codec.specs.OpsQueue.{queue_refusal, after_queue};
 ghost use Rattle.state_codec.specs.OpsSongs.{uri_at, uris_at};
 ghost use Rattle.state_codec.specs.Stored.{state_of};
-ghost use Rattle.state_codec.specs.declared.op.queue_op.QueueOp.TheVariants.{Add, Shuffle};
+ghost use Rattle.state_codec.specs.declared.op.queue_op.QueueOp.TheVariants.{Add, Delete, Shuffle};
 
 use super::SavedParts;
 use super::checking::check_rows_of;
+use super::placing::leave_place;
 use crate::op::{QueueOp, RowNumbers};
 use crate::refusal::ApplyError;
 use play_queue::QueueError;
-use player_core::{next_order, words_of};
+use player_core::{Block, next_order, words_of};
 use song_db::{RowUri, SongDb, SongRow};
 use std::alloc::{AllocError, Global};
 
@@ -26,9 +27,7 @@ impl SavedParts {
     {
         match op {
             QueueOp::Add { at, rows } => self.add_songs(alloc, *at, rows),
-            QueueOp::Delete { start, end } => {
-                told(self.queue.delete_range(*start as usize, *end as usize))
-            }
+            QueueOp::Delete { start, end } => self.delete_songs(*start as usize, *end as usize),
             QueueOp::Move { start, end, to } => {
                 told(
                     self.queue
@@ -53,6 +52,16 @@ impl SavedParts {
         let uris = uris_at(alloc, &self.songs, rows.as_slice())?;
         self.queue.add_at(at as usize, uris)?;
         Ok(())
+    }
+
+    fn delete_songs(&mut self, start: usize, end: usize) -> Result<(), ApplyError>
+        ensures { IsEdit (queue_refusal (Delete start end) (state_of self.old)) (after_queue (Delete start end) (state_of self.old))
+            (state_of self.old) (state_of self.new) result }
+    {
+        self.queue.check_range(start, end)?;
+        let block = Block { start, end };
+        leave_place(&mut self.place, self.queue.entries(), block, &[]);
+        told(self.queue.delete_range(start, end))
     }
 
     // The order number grows first, so that the words are those of the order that is then in force.

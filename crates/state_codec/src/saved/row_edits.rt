@@ -8,9 +8,11 @@ ghost use Rattle.state_codec.specs.Stored.{state_of};
 
 use super::SavedParts;
 use super::batch::{changed_by, check_changes, dropped_by};
+use super::placing::leave_place;
 use crate::op::Changes;
 use crate::refusal::ApplyError;
 use play_queue::SortedUris;
+use player_core::Block;
 use song_db::Uri;
 use std::alloc::Global;
 use stickers::Stickers;
@@ -24,10 +26,12 @@ impl SavedParts {
         ensures form { AreChanges changes.now }
     {
         check_changes(self.profile, &self.songs, changes.as_slice())?;
-        let dropped = SortedUris::new(dropped_by(alloc, changes.as_slice())?);
+        let dropped = dropped_by(alloc, changes.as_slice())?;
         let changed = SortedUris::new(changed_by(alloc, &self.songs, changes.as_slice())?);
         let copies = changes.try_clone(alloc)?;
         self.songs.apply_batch(alloc, copies.into_vec())?;
+        leave_place(&mut self.place, self.queue.entries(), Block::NONE, &dropped);
+        let dropped = SortedUris::new(dropped);
         self.queue.follow_batch(&dropped, &changed);
         drop_songs(&mut self.stickers, dropped.as_slice());
         Ok(())

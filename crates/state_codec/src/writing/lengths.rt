@@ -3,14 +3,14 @@ ghost use Rattle.std.specs.Prelude.{◌≡◌, ◌+◌, ◌*◌, ◌≤◌, ◌<
 ghost use Rattle.std.specs.List.{AllByRecursion, flat_map};
 ghost use Rattle.stickers.specs.Sticker.{in_song, sticker};
 ghost use Rattle.state_codec.specs.Appended.{IsShortList, IsShortSticker};
-ghost use Rattle.state_codec.specs.Longest.{longest_end};
 ghost use Rattle.state_codec.specs.SavedState.{IsSavedState};
-ghost use Rattle.state_codec.specs.Spelling.{playlist_bytes, sticker_bytes, saved_bytes};
+ghost use Rattle.state_codec.specs.Spelling.{fields_of, playlist_bytes, sticker_bytes, saved_bytes};
 ghost use Rattle.state_codec.specs.SpellingFields.{text_bytes};
 ghost use Rattle.state_codec.specs.SpellingRows.{row_bytes};
 
 use super::bytes::text_len;
 use super::ops::uri_len;
+use super::place::place_len;
 use super::rows::row_len;
 use crate::saved::Saved;
 use crate::sealed::checksum_len;
@@ -96,13 +96,15 @@ fn stickers_len(stickers: &Stickers) -> usize
     len
 }
 
-// How many bytes stand behind the parts: the number of fields, and the checksum.
-fn end_len(profile: Profile) -> usize
-    ensures { result ≡ longest_end profile }
+// How many bytes the fields behind the parts take.
+fn fields_len(saved: &Saved) -> usize
+    requires { IsSavedState saved.now }
+    ensures len { result ≡ length (fields_of saved.now) }
+    ensures within { result < 2 ^ 40 }
 {
-    match profile {
-        Profile::Named => 0,
-        Profile::Wide => 1 + checksum_len(profile),
+    match saved.place() {
+        Some(place) => place_len(place),
+        None => 0,
     }
 }
 
@@ -117,5 +119,5 @@ pub(crate) fn saved_len(saved: &Saved) -> usize
     let lists = lists_len(saved.lists());
     let stickers = stickers_len(saved.stickers());
     // The head has 53 bytes, and each of the four parts a number of 4 in front.
-    69 + rows + entries + lists + stickers + end_len(profile)
+    69 + rows + entries + lists + stickers + fields_len(saved) + checksum_len(profile)
 }

@@ -10,6 +10,7 @@ ghost use Rattle.state_codec.specs.SpellingOps.{setting_bytes, row_numbers_bytes
 ghost use Rattle.state_codec.specs.SpellingOps.{list_kind, list_fields, sticker_kind, sticker_fields, op_bytes};
 
 use super::bytes::{put_byte, put_pair, put_text, put_u32, put_u64, text_len};
+use super::place::{place_kind, place_op_len, put_place_fields};
 use super::rows::{changes_len, put_changes};
 use crate::op::{ListOp, Op, OpRanges, QueueOp, RowNumbers, Setting, StickerOp, Text};
 use player_core::Single;
@@ -47,7 +48,7 @@ fn put_setting(out: &mut Vec<u8>, value: Setting)
     put_byte(out, byte);
 }
 
-fn put_numbers(out: &mut Vec<u8>, numbers: &[u32])
+pub(super) fn put_numbers(out: &mut Vec<u8>, numbers: &[u32])
     requires { HasRoom out.old (length (flat_map u32_bytes numbers.now)) }
     ensures { Appends out.old out.new (flat_map u32_bytes numbers.now) }
 {
@@ -314,6 +315,7 @@ impl Op {
             Op::List(op) => 1 + list_len(op),
             Op::Sticker(op) => 1 + sticker_len(op),
             Op::Batch(changes) => 1 + changes_len(profile, changes),
+            Op::Place(op) => 1 + place_op_len(*op),
         }
     }
 }
@@ -352,6 +354,10 @@ pub(crate) fn put_reserved(out: &mut Vec<u8>, profile: Profile, op: &Op)
         Op::Batch(changes) => {
             put_byte(out, 20);
             put_changes(out, profile, changes);
+        }
+        Op::Place(op) => {
+            put_byte(out, place_kind(*op));
+            put_place_fields(out, *op);
         }
     }
 }

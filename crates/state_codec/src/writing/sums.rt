@@ -1,12 +1,10 @@
-// What stands behind ops and behind the parts of a snapshot, appended to room that was taken before.
+// What stands behind ops and behind a snapshot, appended to room that was taken before.
 ghost use Rattle.std.specs.Prelude.{◌≡◌, ◌≤◌, ◌++◌, drop, take, length, vec_len, vec_capacity};
 ghost use Rattle.state_codec.specs.Appended.{HasRoom};
 ghost use Rattle.state_codec.specs.Checksum.{checksum_of};
-ghost use Rattle.state_codec.specs.Longest.{longest_end};
 ghost use Rattle.state_codec.specs.Sealed.{sealed, checksum_len};
-ghost use Rattle.state_codec.specs.Spelling.{with_fields};
 
-use super::bytes::{put_byte, put_u32};
+use super::bytes::put_u32;
 use crate::checksum::checksum_of;
 use profile::Profile;
 
@@ -28,17 +26,5 @@ pub(crate) fn put_sum(out: &mut Vec<u8>, profile: Profile, start: usize)
     if let Profile::Wide = profile {
         let sum = sum_from(out.as_slice(), start);
         put_u32(out, sum);
-    }
-}
-
-/// Appends what stands behind the parts of a snapshot that are all of the bytes: the number of fields, and the checksum.
-pub(crate) fn put_end(out: &mut Vec<u8>, profile: Profile)
-    requires { HasRoom out.old (longest_end profile) }
-    ensures items { out.new.items ≡ sealed profile (with_fields profile out.old.items) }
-    ensures capacity { vec_capacity out.new ≡ vec_capacity out.old }
-{
-    if let Profile::Wide = profile {
-        put_byte(out, 0);
-        put_sum(out, profile, 0);
     }
 }

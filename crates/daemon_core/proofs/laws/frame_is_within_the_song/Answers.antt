@@ -13,6 +13,8 @@ returns c =
       broken = stays.broken;
       found = stays.found;
       scanned = stays.scanned;
+      kept_at = stays.kept_at;
+      resumed = stays.resumed;
       clocked = λ time m h. record { queue = h.queue; sound = h.sound; frame = h.frame };
     } in
     λ kept history saved. (within keeps kept history saved).frame

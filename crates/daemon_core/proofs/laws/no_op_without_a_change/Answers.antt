@@ -13,5 +13,7 @@ returns c =
       broken_none = of_event.broken_none;
       broken_same = of_event.broken_same;
       found = of_event.found;
+      kept_none = of_event.kept_none;
+      kept_same = of_event.kept_same;
     } in
     record { none = no_op known; same = nothing_changed known }

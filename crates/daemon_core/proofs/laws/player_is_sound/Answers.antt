@@ -13,6 +13,8 @@ returns c =
       broken = stays.broken;
       found = stays.found;
       scanned = stays.scanned;
+      kept_at = stays.kept_at;
+      resumed = stays.resumed;
       clocked = λ time m h. h;
     } in
     record {

@@ -1,6 +1,9 @@
-use Rattle.std.proofs.Common.{◌≡◌, refl, ap, ◌∙◌}
+use Rattle.std.proofs.Common.{◌≡◌, refl, ap, ◌∙◌, sym, subst}
 use Rattle.std.specs.Prelude.{Ok, Err}
+use Rattle.profile.specs.declared.profile.Profile.{Profile}
 use Rattle.state_codec.specs.SavedState.{SavedState}
+use Rattle.machine_core.specs.Work.{CanKeepBy}
+use Rattle.machine_core.proofs.Edits.{was_ok}
 use Rattle.daemon_core.specs.Run.{separator, spent_of}
 use Rattle.daemon_core.proofs.RequestLaws.{words_stop, words_count, command_stop, command_counts, line_runs, line_looks, looks_counted}
 use Rattle.daemon_core.proofs.RequestLaws.{words_tags, command_tags}
@@ -88,3 +91,11 @@ returns-in-Ok-read-clause-tags c =
     ∙ line_tags c.args.place c.args.line.now c.in-Ok.words.items c.as_slice.result.now c.in-Ok-read.command c.args.machine.now
     c.args.tags.now c.in-Ok.ensures.exact c.as_slice.ensures.value
     (read_under c.args.place c.as_slice.result.now (Ok c.in-Ok-read.command) same c.in-Ok-read.ensures.exact))
+
+pub run_command-requires-clause-keeps : goal.run_command-requires-clause-keeps
+run_command-requires-clause-keeps c =
+    let same : c.profile-profile.result ≡ c.args.machine.now.saved.profile =
+    c.profile-profile.ensures ∙ ap (λ (s : SavedState). s.profile) c.saved.ensures in
+    subst (λ (p : Profile). CanKeepBy p c.make_room.new.self) same
+    (was_ok c.make_room.result (CanKeepBy c.profile-profile.result c.make_room.new.self) (sym c.is_err.ensures.value ∙ c.if-is_err.false)
+    c.make_room.ensures.keeps)

@@ -1,13 +1,16 @@
-use Rattle.machine_core.proofs.Sound.Commands.{command_sound, when_broken_sound, when_ended_sound, when_fed_sound}
-use Rattle.machine_core.proofs.Sound.Commands.{when_found_sound, when_scanned_sound}
+use Rattle.machine_core.proofs.Sound.Commands.{when_fed_sound, when_scanned_sound}
+use Rattle.machine_core.proofs.Sound.Resumed.{kept_broken_sound, kept_command_sound, kept_ended_sound, kept_found_sound, when_kept_sound}
+use Rattle.machine_core.proofs.Sound.Resumed.{when_resumed_sound}
 use Rattle.machine_core.proofs.laws.player_stays_sound.Goals as goal
 
 pub returns : goal.returns
 returns c = record {
-  command = command_sound;
+  command = kept_command_sound;
   fed = when_fed_sound;
-  ended = when_ended_sound;
-  broken = when_broken_sound;
-  found = when_found_sound;
+  ended = kept_ended_sound;
+  broken = kept_broken_sound;
+  found = kept_found_sound;
   scanned = when_scanned_sound;
+  kept_at = when_kept_sound;
+  resumed = when_resumed_sound;
 }

@@ -118,7 +118,7 @@ fn matching_among<'a>(
 }
 
 // The rows that match, as a profile tells them.
-pub(super) fn rows_told<'a>(
+fn rows_told<'a>(
     alloc: Global,
     profile: Profile,
     songs: &'a SongDb,
@@ -169,7 +169,7 @@ pub(super) fn ordered_rows<'a>(
 }
 
 // The numbers of all rows that match.
-pub(super) fn all_numbers(
+fn all_numbers(
     alloc: Global,
     songs: &SongDb,
     case: Case,

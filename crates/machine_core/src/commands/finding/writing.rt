@@ -4,18 +4,15 @@ ghost use Rattle.std.specs.Option.{option_copied};
 ghost use Rattle.std.specs.List.{flat_map};
 ghost use Rattle.command_text.specs.Answer.{Adds};
 ghost use Rattle.command_text.specs.AnswerSongs.{file_line, song_lines};
-ghost use Rattle.play_queue.specs.Shown.{shown};
 ghost use Rattle.profile.specs.declared.profile.Profile.TheVariants.{Named};
-ghost use Rattle.song_db.specs.Row.{row_at};
-ghost use Rattle.machine_core.specs.Finding.{Writes, chosen, entries_found, entry_found, found, matching, part_of, value_lines};
+ghost use Rattle.machine_core.specs.Finding.{Writes, chosen, found, matching, part_of, value_lines};
 
 use super::gathering::matching_rows;
 use super::part::Part;
 use super::windowed;
 use crate::answer::write_songs;
-use command_text::{NoMemory, Search, TagMask, write_entry, write_file, write_song, write_value};
+use command_text::{NoMemory, Search, TagMask, write_file, write_song, write_value};
 use filter_expr::{Case, Filter};
-use play_queue::{Entries, EntryRef};
 use song_db::{SongDb, SongRow, Texts};
 use song_files::Tag;
 use std::alloc::Global;
@@ -135,54 +132,4 @@ pub(super) fn write_values(out: &mut Vec<u8>, tag: Tag, values: &Texts<'_>) -> R
         write_value(out, tag, *value)?;
     }
     Ok(())
-}
-
-// Adds the entries that match.
-pub(super) fn write_entries(
-    out: &mut Vec<u8>,
-    alloc: Global,
-    mask: TagMask,
-    songs: &SongDb,
-    entries: &Entries,
-    case: Case,
-    filter: &Filter,
-) -> Result<(), NoMemory>
-    ensures { Writes (entries_found mask case filter.now songs.now 0 entries.now) result out.old out.new }
-{
-    for position in 0..entries.len() {
-        write_match(
-            out,
-            alloc,
-            mask,
-            songs,
-            case,
-            filter,
-            position,
-            &entries.at(position),
-        )?;
-    }
-    Ok(())
-}
-
-// Adds an entry, if it matches.
-fn write_match(
-    out: &mut Vec<u8>,
-    alloc: Global,
-    mask: TagMask,
-    songs: &SongDb,
-    case: Case,
-    filter: &Filter,
-    position: usize,
-    entry: &EntryRef<'_>,
-) -> Result<(), NoMemory>
-    ensures { Writes (entry_found mask case filter.now position (shown entry.now) (row_at songs.now (shown entry.now).uri))
-        result out.old out.new }
-{
-    let Ok(row) = songs.row_of(entry.uri) else {
-        return Ok(());
-    };
-    if !filter.matches(alloc, row, case)? {
-        return Ok(());
-    }
-    write_entry(out, mask, row, position, entry)
 }

@@ -14,16 +14,16 @@ create-requires g c = record { written = written_so c.args.profile c.layout_numb
 
 pub invariant_of-result : goal.invariant_of-result
 invariant_of-result g c = (
-  c.in-Ok.ensures.room,
+  c.in-Ok-room_for.ensures.room,
   λ usable. c.in-Ok-create.ensures.new.layout ∙ c.layout_number.ensures
       ∙ ap written_layout (sym (ap (λ (s : State). s.machine.saved.profile) c.new.ensures
-      ∙ ap (λ (s : SavedState). s.profile) c.fresh-saved.ensures)),
+      ∙ ap (λ (s : SavedState). s.profile) c.in-Ok.ensures)),
   λ usable ha' hb'.
       let ha = c.in-Ok-create.ensures.later.a.honesty.1 ha' in
       let hb = c.in-Ok-create.ensures.later.b.honesty.1 hb' in
       let held = c.in-Ok-create.ensures.kept ha hb in
-      fresh_stands _ c.layout_number.result c.of.result.pieces c.fresh-saved.result
-      (c.layout_number.ensures ∙ ap (λ (s : SavedState). written_layout s.profile) (sym c.fresh-saved.ensures)) held.says c.of.ensures.spelled
+      fresh_stands _ c.layout_number.result c.of.result.pieces c.in-Ok.saved
+      (c.layout_number.ensures ∙ ap (λ (s : SavedState). written_layout s.profile) (sym c.in-Ok.ensures)) held.says c.of.ensures.spelled
       c.of.ensures.in_range
       ∙ ap (λ (s : State). Some s.machine.saved) (sym c.new.ensures),
 )
@@ -33,16 +33,16 @@ returns-in-Ok-create-clause-kept g c = λ ha hb.
     let held = c.in-Ok-create.ensures.kept ha hb in
     find_now (g.D.Disk.history c.in-Ok-create.journal.a) (g.D.Disk.history c.in-Ok-create.journal.b) c.in-Ok-create.journal.content _
     held.kept
-    (fresh_stands _ c.layout_number.result c.of.result.pieces c.fresh-saved.result
-    (c.layout_number.ensures ∙ ap (λ (s : SavedState). written_layout s.profile) (sym c.fresh-saved.ensures)) held.says c.of.ensures.spelled
+    (fresh_stands _ c.layout_number.result c.of.result.pieces c.in-Ok.saved
+    (c.layout_number.ensures ∙ ap (λ (s : SavedState). written_layout s.profile) (sym c.in-Ok.ensures)) held.says c.of.ensures.spelled
     c.of.ensures.in_range
-    ∙ ap Some c.fresh-saved.ensures)
+    ∙ ap Some c.in-Ok.ensures)
 
 pub returns-in-Err-create-clause-fault : goal.returns-in-Err-create-clause-fault
 returns-in-Err-create-clause-fault g c = λ ha hb broken.
     let empty_a : g.D.Disk.content c.args.a ≡ [] = (c.is_empty.ensures ha).0 c.if-not-is_empty.false in
     let empty_b : g.D.Disk.content c.args.b ≡ [] = (c.is_empty-else-not-is_empty.ensures hb).0 c.if-not-is_empty-2.false in
-    let fault = only_a_fault c.in-Err-create.refused.error c.of.result.pieces c.fresh-saved.result
+    let fault = only_a_fault c.in-Err-create.refused.error c.of.result.pieces c.in-Ok.saved
     c.of.ensures.spelled c.of.ensures.in_range
     c.in-Err-create.ensures.nothing_else (λ is. (c.in-Err-create.ensures.too_long ha hb empty_a empty_b).0 is)
     (sym c.refused_start.ensures.error ∙ broken) in
@@ -54,6 +54,6 @@ returns-in-Ok-create-clause-numbers g c =
     let long = ap (λ (l : List ℕ). length l) c.of.ensures.spelled in (
       numbers_made g.D.Disk.faults c.args.a c.args.b c.in-Ok-create.journal c.layout_number.result (length c.of.result.pieces) new,
       file_made g.D.Disk.faults c.args.a c.args.b c.in-Ok-create.journal c.layout_number.result (length c.of.result.pieces)
-          c.fresh-saved.result new long ∙ ap (λ (s : SavedState). first_file s) c.fresh-saved.ensures,
+          c.in-Ok.saved new long ∙ ap (λ (s : SavedState). first_file s) c.in-Ok.ensures,
       refl,
     )

@@ -1,12 +1,10 @@
 use Rattle.std.proofs.Common.{◌≡◌, List, [], ap, sym, ◌∙◌}
-use Rattle.filter_expr.specs.declared.case.Case.TheVariants.{Folded}
 use Rattle.song_db.specs.Row.{Row}
 use Rattle.state_codec.specs.declared.op.Op.TheVariants.{List as OfLists}
 use Rattle.state_codec.specs.declared.op.list_op.ListOp.TheVariants.{Add}
-use Rattle.machine_core.specs.Finding.{finding_meaning, matching, numbers_in}
+use Rattle.machine_core.specs.Finding.{finding_meaning, found as found_by, numbers_in}
 use Rattle.machine_core.specs.Lists.{list_name}
 use Rattle.machine_core.specs.Meaning.{edits}
-use Rattle.machine_core.specs.Ordered.{rows_told}
 use Rattle.machine_core.specs.State.{MachineState}
 use Rattle.machine_core.proofs.Answering.{also}
 use Rattle.machine_core.proofs.LookUps.{found, not_found}
@@ -18,23 +16,22 @@ returns-in_err-name c =
     let m = c.args.self.now in
     not_found (list_name c.args.name.now)
     (λ good. edits
-    (OfLists (Add good (numbers_in m.saved.songs (matching Folded c.args.filter.now (rows_told m.saved.profile m.saved.songs))))) [] m) m
+    (OfLists (Add good (numbers_in m.saved.songs (found_by m.saved.profile c.args.search.now m.saved.songs)))) [] m) m
     c.args.work.now c.in_err-name.field-0.0 c.from_residual.result c.in_err-name.ensures c.from_residual.ensures.1
 
 pub returns : goal.returns
 unfolding finding_meaning
 returns c =
     let m = c.args.self.now in
-    let tree = c.args.filter.now in
+    let search = c.args.search.now in
     let name = c.in_ok-name.name in
     let profile = c.profile.ensures ∙ ap (λ (n : MachineState). n.saved.profile) c.self.view_is in
     let songs = c.songs.ensures ∙ ap (λ (n : MachineState). n.saved.songs) c.self.view_is in
-    let rows : c.in_ok-rows.rows ≡ numbers_in m.saved.songs (matching Folded tree (rows_told m.saved.profile m.saved.songs)) =
-    c.in_ok-rows.ensures
-    ∙ ap (λ profile. numbers_in c.songs.result.now (matching Folded tree (rows_told profile c.songs.result.now))) profile
-    ∙ ap (λ (songs : List Row). numbers_in songs (matching Folded tree (rows_told m.saved.profile songs))) songs in
+    let rows : c.in_ok-rows.rows ≡ numbers_in m.saved.songs (found_by m.saved.profile search m.saved.songs) =
+    c.in_ok-rows.ensures ∙ ap (λ profile. numbers_in c.songs.result.now (found_by profile search c.songs.result.now)) profile
+    ∙ ap (λ (songs : List Row). numbers_in songs (found_by m.saved.profile search songs)) songs in
     also _ _ _ _ _ _ _
     (found (list_name c.args.name.now)
-    (λ good. edits (OfLists (Add good (numbers_in m.saved.songs (matching Folded tree (rows_told m.saved.profile m.saved.songs))))) [] m)
+    (λ good. edits (OfLists (Add good (numbers_in m.saved.songs (found_by m.saved.profile search m.saved.songs)))) [] m)
     name c.in_ok-name.ensures
     ∙ (λ i. edits (OfLists (Add name (sym rows i))) [] m)) c.edit.ensures.performs

@@ -6,8 +6,10 @@ use Rattle.song_db.specs.declared.change.RowChange.{RowChange}
 use Rattle.profile.specs.declared.profile.Profile.{Profile}
 use Rattle.state_codec.specs.Changes.{AreChanges, are_kept}
 use Rattle.machine_core.specs.Happening.{HasHappened, Happening, nothing_happens}
+use Rattle.machine_core.specs.Keeping.{kept_event}
 use Rattle.machine_core.specs.Scanning.{changes_rows, finds, kept_changes, telling, when_found}
 use Rattle.machine_core.specs.State.{MachineState}
+use Rattle.machine_core.proofs.KeepingLaws.{kept_nothing}
 use Rattle.machine_core.proofs.Scans.Laws.{found_is, none_told, nothing_happened, some_told}
 use Rattle.machine_core.proofs.Scans.Rows.{telling_kept, told_few}
 use Rattle.machine_core.proofs.machine.Machine.batch.Goals as goal
@@ -37,8 +39,8 @@ returns-in-Some-clause-ok c =
     let means : when_found c.args.job c.args.changes m ≡ changes_rows c.in-Some.told m =
     found_is c.args.job c.args.changes m (sym c.if-not-runs_job.ensures)
     ∙ ap (λ (t : List RowChange). finds t m) all ∙ told.1 in
-    subst (λ (h : Happening). IfOk c.change_rows.result (λ happened. HasHappened h m c.change_rows.new.self happened)) (sym means)
-    c.change_rows.ensures.ok
+    subst (λ (h : Happening). IfOk c.change_rows.result (λ happened. HasHappened (kept_event m h) m c.change_rows.new.self happened))
+    (sym means) c.change_rows.ensures.ok
 
 pub returns-in-None-clause-ok : goal.returns-in-None-clause-ok
 returns-in-None-clause-ok c =
@@ -55,5 +57,5 @@ returns-in-None-clause-ok c =
     let none : c.in_ok-told.told.items ≡ [] = none_told c.new.result c.in_ok-told.told.items c.new.ensures c.in-None.is few in
     let means : when_found c.args.job changes m ≡ nothing_happens m =
     found_is c.args.job changes m (sym c.if-not-runs_job.ensures) ∙ ap (λ (t : List RowChange). finds t m) (sym told ∙ none) in
-    subst (λ (h : Happening). HasHappened h m m c.nothing-in-None.result) (sym means)
+    subst (λ (h : Happening). HasHappened h m m c.nothing-in-None.result) (sym (ap (kept_event m) means ∙ kept_nothing m))
     (nothing_happened m c.nothing-in-None.result c.nothing-in-None.ensures.ops c.nothing-in-None.ensures.changed)

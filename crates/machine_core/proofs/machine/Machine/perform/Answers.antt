@@ -1,11 +1,12 @@
-use Rattle.std.proofs.Common.{◌∙◌}
-use Rattle.machine_core.proofs.ChangedLaws.{since_command}
+use Rattle.std.proofs.Common.{ℕ, ◌+◌, ◌≤◌, subst}
+use Rattle.machine_core.specs.Command.{meaning}
+use Rattle.machine_core.specs.Looks.{looks_of, max_looks}
+use Rattle.machine_core.proofs.KeptWork.{looks_within}
 use Rattle.machine_core.proofs.machine.Machine.perform.Goals as goal
 
-pub returns-clause-changed : goal.returns-clause-changed
-returns-clause-changed c =
-    c.changed_since.ensures
-    ∙ since_command c.args.mask c.args.command c.args.self.now c.dispatch.new.self c.args.work.now c.dispatch.new.work
-    c.before-before.result
-    c.len-made.result c.deref.result.now c.in_ok-dispatch.ensures.performs c.before-before.ensures.kept c.before-before.ensures.value
-    c.len-made.ensures c.deref.ensures.value
+pub returns-clause-performs : goal.returns-clause-performs
+returns-clause-performs c =
+    let m = c.args.self.now in
+    looks_within c.args.looks.now (looks_of c.args.command m) (meaning c.args.mask c.args.command m) m c.perform_kept.new.self
+    c.args.work.now c.perform_kept.new.work c.perform_kept.result
+    (subst (λ (n : ℕ). c.args.looks.now + n ≤ max_looks) c.looks_of.ensures c.in_ok-take.ensures.within) c.perform_kept.ensures.performs

@@ -67,4 +67,4 @@ returns-clause-performs c =
     c.requires.several c.move_entries.ensures c.requires.room c.in_ok-admit_both.ensures.nothing c.in_ok-admit_both.ensures.same
     (subst (λ ops. AddsOps ops (length (ops_bytes p ops)) c.admit_both.new.self c.push_both.new.self)
     (λ i. c.shuffle_op-op.ensures i ∷ c.move_op-2.ensures i ∷ []) c.push_both.ensures.ops)
-    c.push_both.ensures.text
+    c.push_both.ensures.text c.push_both.ensures.keeps

@@ -1,4 +1,4 @@
-use Rattle.std.proofs.Common.{◌≡◌, List, Result, Ok, Err, IfOk, sym, subst}
+use Rattle.std.proofs.Common.{◌≡◌, ◌∙◌, List, Result, Ok, Err, IfOk, sym, subst}
 use Rattle.std.specs.Result.{MatchResult, is_ok}
 use Rattle.no_memory.specs.declared.NoMemory.{NoMemory}
 use Rattle.song_db.specs.Row.{Row}
@@ -25,10 +25,19 @@ invariant_of-result c =
     let queue : c.in_ok-try_clone.field-0 ≡ s.queue = c.in_ok-try_clone.ensures in
     let lists : c.in_ok-try_clone-2.field-0 ≡ s.lists = c.in_ok-try_clone-2.ensures in
     let stickers : c.in_ok-try_clone-3.field-0 ≡ s.stickers = c.in_ok-try_clone-3.ensures in
+    let place : c.in_ok-copy_of.field-0 ≡ s.place = c.in_ok-copy_of.ensures ∙ c.as_ref.ensures.value in
     let same : state_of s ≡ state_of (record s {
       songs = c.in_ok-map_err.field-0;
       queue = c.in_ok-try_clone.field-0;
       lists = c.in_ok-try_clone-2.field-0;
       stickers = c.in_ok-try_clone-3.field-0;
-    }) = λ i. state_of (record s { songs = sym songs i; queue = sym queue i; lists = sym lists i; stickers = sym stickers i }) in
+      place = c.in_ok-copy_of.field-0;
+    }) = λ i. state_of (record s {
+      songs = sym songs i;
+      queue = sym queue i;
+      lists = sym lists i;
+      stickers = sym stickers i;
+      place =
+          sym place i;
+    }) in
     subst IsSavedState same c.self.invariant

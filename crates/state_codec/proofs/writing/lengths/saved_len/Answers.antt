@@ -4,7 +4,7 @@ use Rattle.profile.specs.declared.profile.Profile.{Profile}
 use Rattle.song_db.specs.Row.{Row}
 use Rattle.stickers.specs.Sticker.{Sticker}
 use Rattle.stored_lists.specs.Lists.{Stored}
-use Rattle.state_codec.specs.Longest.{longest_end}
+use Rattle.state_codec.specs.Sealed.{checksum_len}
 use Rattle.state_codec.specs.Spelling.{playlist_bytes, sticker_bytes, head_bytes, parts_bytes}
 use Rattle.state_codec.specs.SpellingRows.{row_bytes}
 use Rattle.state_codec.proofs.LengthLaws.{end_len}
@@ -23,7 +23,8 @@ returns c =
     c.lists_len-lists.ensures.len ∙ ap (λ (lists : Stored). length (flat_map playlist_bytes lists)) c.lists.ensures in
     let stickers : c.stickers_len-stickers.result ≡ length (flat_map sticker_bytes s.stickers) =
     c.stickers_len-stickers.ensures.len ∙ ap (λ (all : List Sticker). length (flat_map sticker_bytes all)) c.stickers.ensures in
-    let end : c.end_len.result ≡ longest_end s.profile = c.end_len.ensures ∙ ap (λ (p : Profile). longest_end p) c.profile-profile.ensures in
+    let sum : c.checksum_len.result ≡ checksum_len s.profile =
+    c.checksum_len.ensures ∙ ap (λ (p : Profile). checksum_len p) c.profile-profile.ensures in
     omega (
       arith,
       parts.head,
@@ -32,10 +33,11 @@ returns c =
       parts.lists,
       parts.stickers,
       parts.whole,
-      end_len s.profile (head_bytes s ++ parts_bytes s),
+      end_len s.profile s.place (head_bytes s ++ parts_bytes s),
+      c.fields_len.ensures.len,
       rows,
       entries,
       lists,
       stickers,
-      end,
+      sum,
     )

@@ -1,5 +1,6 @@
 use Rattle.std.proofs.lemmas.Result.{err_from_is_err_and}
-use Rattle.mpd_program.proofs.JobLaws.{batch_runs}
+use Rattle.std.proofs.Common.{◌∙◌}
+use Rattle.mpd_program.proofs.JobLaws.{batch_runs, batch_waits}
 use Rattle.mpd_program.proofs.ServingLaws.{serves_none, serves_on, over_folder, usable_on}
 use Rattle.mpd_program.proofs.console.serving.Service.serve_changes.Goals as goal
 
@@ -21,4 +22,6 @@ loop-batches-preserved g c =
       so_far = serves_on (over_folder _ c.loop-batches.invariant.so_far) done.served;
       running = batch_runs c.job-job.result c.in-Some.changes c.loop-batches.self.live.state c.serve_event.new.self.live.state done.step
           c.loop-batches.invariant.running;
+      waiting = batch_waits c.job-job.result c.in-Some.changes c.loop-batches.self.live.state c.serve_event.new.self.live.state done.step
+          ∙ c.loop-batches.invariant.waiting;
     }

@@ -11,8 +11,8 @@ serve_event-requires-clause-usable g c = usable_on c.in_ok-tell_time.ensures.ser
 pub serve_event-requires-clause-turn : goal.serve_event-requires-clause-turn
 serve_event-requires-clause-turn g c = c.in_ok-tell_time.ensures.idle
 
-pub serve_job-requires : goal.serve_job-requires
-serve_job-requires g c =
+pub serve_jobs-requires : goal.serve_jobs-requires
+serve_jobs-requires g c =
     usable_on c.in_ok-serve_event.ensures.served (usable_on c.in_ok-tell_time.ensures.served c.requires.usable)
 
 pub returns-in_err-tell_time-clause-served : goal.returns-in_err-tell_time-clause-served
@@ -27,4 +27,4 @@ returns-in_err-serve_event-clause-served g c =
 
 pub returns-clause-served : goal.returns-clause-served
 returns-clause-served g c =
-    serves_on c.in_ok-tell_time.ensures.served (serves_on c.in_ok-serve_event.ensures.served c.serve_job.ensures.served)
+    serves_on c.in_ok-tell_time.ensures.served (serves_on c.in_ok-serve_event.ensures.served c.serve_jobs.ensures.served)

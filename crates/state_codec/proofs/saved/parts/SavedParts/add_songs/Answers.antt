@@ -28,5 +28,6 @@ returns-in_err-add_at-clause-edit c =
       queue = queue;
       lists = c.args.self.now.lists;
       stickers = c.args.self.now.stickers;
+      place = c.args.self.now.place;
     })
     c.in_err-add_at.ensures.err)

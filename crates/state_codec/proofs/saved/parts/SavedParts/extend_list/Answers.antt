@@ -28,5 +28,6 @@ returns-in_err-add-clause-edit c =
       queue = c.args.self.now.queue;
       lists = all;
       stickers = c.args.self.now.stickers;
+      place = c.args.self.now.place;
     })
     c.in_err-add.ensures.err)
