@@ -5,7 +5,7 @@ Proofs are modular: what its callers know of a function is its contract. So edit
 each judged at its own function: it is refused where the prover names a goal of that function which it did not prove. Of several
 edits of one function the first stands in its place, each other in a copy of the function; the functions that no edit changes are
 hollow, since the crate's own proof has them. One for which no such line comes goes into the next round, then it is tried alone,
-and at last by the toolchain's own trial, a check of the whole crate from nothing, whose verdict stands.
+and at last by the toolchain's own trial, a check of the whole crate, whose verdict stands.
 
 As a control copies without an edit stand in the same check, and each goal of theirs must be proved. A function that has copies
 with an edit has one of these, else nothing is said of those edits. So have the other functions that are changed, all of them or
@@ -25,8 +25,8 @@ NAME = re.compile(r"[A-Za-z0-9_-][A-Za-z0-9_.-]*\.edit")
 LINE = re.compile(r"(?m)^fn (\S+): (proved|.*)$")
 # A goal of the function's own, in the line of a function that has no answer for it.
 GOAL = re.compile(r"did not prove `[^`]*`")
-# What is said of a function whose own goals are all proved, where something that it calls is not.
-INHERITED = re.compile(r"(?:no proof|not proved): it calls [^;]*(?:; it calls [^;]*)*")
+# What is said of a function whose own goals are all proved, where something that it calls, or hands on, is not.
+INHERITED = re.compile(r"(?:no proof|not proved): it (?:calls|passes) [^;]*(?:; it (?:calls|passes) [^;]*)*")
 # One that the prover tells right before the line of a function whose proof file doesn't fit.
 NOTE = re.compile(r"note: src/\S+:\d+:\d+: it is not proved that .*\((`[^`]*`)\)")
 # One that its own proof file answers, and no longer rightly; a proof file that only names what an edit took away shows nothing.
@@ -63,10 +63,9 @@ def label(path):
     return os.path.basename(os.path.dirname(path))
 
 
-def in_gate(crate, edits, flags):
-    """What `rt ci` is to say of a crate's must-fail edits, tried as mutants are: by itself it proves the whole crate once more for them. The
-    flags are `--jobs` and a number."""
-    return Trial(crate, None, int(flags[1])).run(edits)
+def in_gate(crate, kept, edits, jobs):
+    """What `rt ci` is to say of a crate's must-fail edits, tried as mutants are."""
+    return Trial(crate, kept, jobs).run(edits)
 
 
 class Verdicts:
@@ -149,10 +148,10 @@ class Trial:
             if edit.functions and edit not in refused:
                 refused |= self.judge(self.batch_of([edit]))
         if refused and not self.control(refused):
-            self.say("the control, functions as they are, was not proved; each mutant is tried alone and from nothing")
+            self.say("the control, functions as they are, was not proved; each mutant is tried alone, at the whole crate")
             refused = {}
         said = {it.path: (True, text) for it, text in refused.items()}
-        return {it: said.get(it) or toolchain.try_from_nothing(self.crate, it, self.jobs) for it in paths}
+        return said | toolchain.try_whole(self.crate, [it for it in paths if it not in said], self.jobs)
 
     def say(self, text):
         toolchain.say(f"{self.crate.name}: {text}")

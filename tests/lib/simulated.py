@@ -7,6 +7,7 @@ A step is drawn by a number of its own for what there is then: so any of them ca
 import collections
 import os
 import random
+import re
 import time
 
 import changes
@@ -30,6 +31,8 @@ GROUP = 64
 BROKEN, OUT_OF_MEMORY = "refused 42 broken by a disk fault", "refused 43 out of memory"
 # What the driver prints of a scan that found no memory.
 LEFT_OFF = "left off"
+# In a request whose answer tells who has a channel.
+SEES_CHANNELS = re.compile(rb"channels|sendmessage")
 
 
 def unlike(found, greeting, asked):
@@ -52,6 +55,16 @@ def grouped(asked):
         if request.is_list:
             break
     return found
+
+
+def with_ends(clients, due, closing):
+    """Copies of these, and of them where some of those who are let go of, and have channels, have ended."""
+    yield clients.copy(), {**due}
+    for at, number in enumerate(closing):
+        if clients.channels.get(number):
+            other = clients.copy()
+            other.gone(number)
+            yield from with_ends(other, due, closing[at + 1 :])
 
 
 class Episode:
@@ -497,8 +510,7 @@ class Episode:
         worlds, faults = {}, []
         for world in self.worlds(self.orders(asked), first.stops, closed):
             try:
-                clients, due = self.in_world(world, got, closed)
-                worlds.setdefault(clients.key(), (clients, due))
+                worlds.update((it[0].key(), it) for it in self.in_world(world, got, closed))
             except Finding as fault:
                 faults.append(fault)
         if not worlds:
@@ -509,8 +521,6 @@ class Episode:
         self.clients, due = next(iter(worlds.values()))
         for number in closed:
             self.streams.pop(number)
-            self.clients.gone(number)
-            self.clients.closed.discard(number)
         for number, stream in self.streams.items():
             stream.due, stream.unasked = due[number], 0
         return self.end_life([self.clients.state], self.clients.has_ended)
@@ -547,19 +557,43 @@ class Episode:
                         yield [it for place, it in enumerate(plain) if place < at or it[0] != number]
 
     def in_world(self, world, got, closed):
-        """The clients and what each is still owed, if this was done; a finding where they got something else."""
-        clients, due = self.clients.copy(), {number: it.due for number, it in self.streams.items()}
+        """Pairs of the clients that stay and what each is still owed, if this was done; a finding where they got something else. The end of
+        one that is let go of may come before any request of another."""
+        found = [(self.clients.copy(), {number: it.due for number, it in self.streams.items()})]
         for number, request, stop in world:
-            for client, text in clients.connect(number) if request is None else clients.request(number, request, stop):
-                if client in due:
-                    due[client] += text
+            if request is not None and SEES_CHANNELS.search(request.text):
+                found = [it for pair in found for it in with_ends(*pair, sorted(closed - {number}))]
+            for clients, due in found:
+                for client, text in clients.connect(number) if request is None else clients.request(number, request, stop):
+                    if client in due:
+                        due[client] += text
+            found = self.told_apart(found, got, closed) if len(found) > 1 else found
+        faults = [self.unlike_owed(due, got, closed) for _, due in found]
+        if all(faults):
+            raise Finding(faults[0])
+        for clients, due in found:
+            due.update({number: text[len(got[number]) :] for number, text in due.items()})
+            for number in closed:
+                clients.gone(number)
+                clients.closed.discard(number)
+        return [it for it, fault in zip(found, faults) if not fault]
+
+    def told_apart(self, found, got, closed):
+        """Of these pairs those in which clients may have got this as yet, the first if there are none; without those that are as another."""
+        is_front = lambda due: all(text.startswith(got[number]) or got[number].startswith(text) for number, text in due.items())
+        # What those who are let go of haven't got is all the same.
+        seen = lambda due: [text[: len(got[number])] if number in closed else text for number, text in due.items()]
+        kept = [it for it in found if is_front(it[1])] or found[:1]
+        return [*{(clients.key(), *seen(due)): (clients, due) for clients, due in kept}.values()]
+
+    def unlike_owed(self, due, got, closed):
+        """Where a client got something else than it is owed, or not all that it is to get; or None."""
         for number, stream in self.streams.items():
             if not due[number].startswith(got[number]):
-                raise Finding(f"client {number} got {got[number][:300]!r}, and is owed {due[number][:300]!r}")
-            due[number] = due[number][len(got[number]) :]
-            if due[number] and stream.is_free() and number not in closed:
-                raise Finding(f"client {number} is owed {due[number][:300]!r}")
-        return clients, due
+                return f"client {number} got {got[number][:300]!r}, and is owed {due[number][:300]!r}"
+            if due[number] != got[number] and stream.is_free() and number not in closed:
+                return f"client {number} is owed {due[number][len(got[number]) :][:300]!r}"
+        return None
 
     def look_again(self, states):
         """All clients are let go of, and the state is looked at. A job goes on, and what it has found is told of at its end. Behind this the
