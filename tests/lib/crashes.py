@@ -14,6 +14,7 @@ import player
 from clients import is_whole, wait_for
 from daemons import Daemon
 from scripts import Failure, wave, write
+from stock_rows import is_of_this_hour
 
 # The key of random order, and the songs of the music's folder, each with its frames and its title.
 KEY = bytes([0x5A]) * 32
@@ -27,6 +28,7 @@ MOST_UNANSWERED = 64
 LISTS, OTHERS = 0.2, 0.3
 # What the clock of a life tells, which no state has.
 CLOCK = re.compile(rb"^(uptime|db_update): [0-9]+", re.MULTILINE)
+LIST_TIME, UNKNOWN = re.compile(rb"^(playlist: .*\nLast-Modified: )([0-9TZ:-]*)", re.MULTILINE), b"1970-01-01T00:00:00Z"
 
 
 def prepared(program, folder, left=None, is_old=False, is_wide=False, **settings):
@@ -79,6 +81,14 @@ def ask_all(client, requests):
     if not all(map(is_whole, found)):
         raise ConnectionResetError("an answer was cut off")
     return found
+
+
+def untold(answer):
+    """An answer, or the front of one, without what the clock tells: a playlist's time of the last hour stands as the plain model has it, as
+    one that isn't known. It is known of each that was changed: otherwise it was lost."""
+    told = lambda time: UNKNOWN if is_of_this_hour(time.decode()) else b"lost: " + time
+    plain = lambda time: UNKNOWN[: len(time)] if len(time) < len(UNKNOWN) else told(time)
+    return LIST_TIME.sub(lambda it: it[1] + plain(it[2]), CLOCK.sub(rb"\1: 0", answer))
 
 
 def ended(console):
@@ -179,7 +189,7 @@ class Front:
         while self.answered < len(self.answers) and self.answers[self.answered] is None:
             self.answered += 1
         expected = self.answers[self.answered] if self.answered < len(self.answers) else b""
-        if not expected.startswith(CLOCK.sub(rb"\1: 0", answer)):
+        if not expected.startswith(untold(answer)):
             raise Failure(f"answer {answer!r} in place of {expected!r}")
         self.answered += 1
 
@@ -209,7 +219,7 @@ class Front:
         kept, with all before it. Where it is told whether a song plays on, the player has gone on."""
         places = places or range(self.answered, len(self.states))
         told = lambda it: self.states[it].restarted(plays).readings(changes.PLAYLISTS, SONGS)
-        answers = ask_all(client, [words for words, _ in told(0)])
+        answers = [*map(untold, ask_all(client, [words for words, _ in told(0)]))]
         is_read = lambda it: all(answer == wanted for answer, (_, wanted) in zip(answers, told(it)))
         if not (left := list(filter(is_read, places))):
             if (lost := next(filter(is_read, range(min(places))), None)) is not None:

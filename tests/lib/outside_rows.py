@@ -12,6 +12,7 @@ import preload
 from daemons import Daemon, check, knowing, make_pipe, put_song, refused, update, wait_for
 from log_rows import EMPTIED, change, is_served, told
 from scripts import write
+from stock_players import time_of
 
 RAMP = list(range(-20_000, 20_000, 4))
 # Lines of `debug` within a minute.
@@ -115,8 +116,9 @@ def streams_of_a_limited_length(program, folder):
 def few_descriptors(program, folder):
     """Where the system gives fewer descriptors than a hundred clients want, a line says so."""
     daemon = Daemon(program, folder).create()
-    for most, lines in ((64, 1), (115, 0)):
-        daemon.lines = []
+    for most, lines, is_wide in ((64, 1, False), (115, 0, False), (134, 1, True), (135, 0, True)):
+        daemon.lines, daemon.settings["stock_clients:"] = [], "true" if is_wide else ""
+        daemon.write()
         with daemon.start([(resource.RLIMIT_NOFILE, most)]):
             daemon.kill(signal.SIGTERM)
         check("lines", len(told(daemon, f"{most} descriptors at most")), lines)
@@ -145,6 +147,49 @@ def scan_that_stands_in_a_call(program, folder):
         time.sleep(1)
         daemon.kill(signal.SIGTERM)
     check("lines", len(told(daemon, "the scan has waited", "the player has waited")), 1)
+
+
+def picture_that_stands_in_a_call(program, folder):
+    """So it is told of the reader of pictures, while others are served. Behind twenty seconds whoever asked is told that it couldn't be
+    read, so that those who have left keep no place; and it is told what the end waits for."""
+    daemon = Daemon(program, folder, **{"stock_clients:": "true"}).create()
+    os.makedirs(f"{folder}/music/hangs")
+    with daemon.start(settings={"LD_PRELOAD": preload.library("hang_calls", folder)}), daemon.client() as client, daemon.client() as other:
+        for asking in [client, *(daemon.client() for _ in range(98))]:
+            asking.send("albumart hangs/a.wav 0\n")
+            if asking is not client:
+                asking.socket.close()
+        # Neither a line behind the one that waits nor those who left keep the daemon busy.
+        client.send("ping\n")
+        before = time_of(daemon)
+        time.sleep(2)
+        check("hundredths of a second of the processor", time_of(daemon) - before < 20, True)
+        wait_for("a line", lambda: told(daemon, "the reader of pictures has waited for ten seconds for one call of the system for the music"))
+        other.do("setvol 41", "stop")
+        check("a client", [client.answer() for _ in range(2)], [["ACK [5@0] {albumart} the picture could not be read"], ["OK"]])
+        wait_for("places", lambda: daemon.client(greeted=False).line())
+        other.send("kill\n")
+        wait_for("a line about the end", lambda: told(daemon, "the end waits for the reader of pictures"))
+        check("the client", client.line(), None)
+        check("the end", daemon.kill(signal.SIGTERM), -signal.SIGTERM)
+
+
+# The daemon makes its threads in the order in which they begin; that of the reader of pictures is the last one.
+PICTURES = 4
+
+
+def no_thread_for_pictures(program, folder):
+    """Where the reader of pictures finds no thread, a line says so, each request for a picture is refused, and all else is served."""
+    daemon = Daemon(program, folder, **{"stock_clients:": "true"}).create()
+    put_song(daemon, "a.wav", [0] * 100)
+    settings = {"LD_PRELOAD": preload.library("fail_threads", folder), "FAILS": str(PICTURES)}
+    with daemon.start(settings=settings), daemon.client() as client:
+        update(client)
+        for name in "albumart", "readpicture":
+            check(name, client.ask(f"{name} a.wav 0"), [f"ACK [2@0] {{{name}}} one picture a command list"])
+        client.do("add a.wav", "play", "stop")
+        check("lines", len(told(daemon, "no thread for the reader of pictures: none is told")), 1)
+        daemon.end_by(client)
 
 
 def slow_disk(program, folder):

@@ -3,10 +3,11 @@ lib/images.py power cuts."""
 
 import os
 import random
+import signal
 
 import crashes
 import player
-from daemons import check, wait_for
+from daemons import Daemon, check, wait_for
 from sounds import LONG, MOST_FRAMES, SONGS, Recorded, is_full, pieces_of, play_to_the_end, playing, random_song, runs_of, sound_of
 
 # Where LONG is sought to, and what is heard from there to the end of the queue.
@@ -83,6 +84,19 @@ def stopped_without_the_key(program, folder):
             kill_in_a_song(daemon, "seek 3 0.050", "pause 1")
         set_resume(daemon, "playing")
         has(daemon, "behind what played then", "pause", "3", "0.050")
+
+
+def keys_without_stock_clients(program, folder):
+    """Without `stock_clients` a line says that these keys do nothing, and nothing else is another one."""
+    daemon = Daemon(program, folder, resume="paused", **{"place_every:": "5"}).create()
+    for is_wide in False, True:
+        daemon.lines, daemon.settings["stock_clients:"] = [], "true" if is_wide else ""
+        daemon.write()
+        with daemon.start():
+            daemon.kill(signal.SIGTERM)
+        found = [it.rpartition(": ")[2] for it in daemon.lines if " without stock_clients" in it]
+        keys = [] if is_wide else ["resume", "place_every"]
+        check("lines", found, [f"{it} does nothing without stock_clients = true" for it in keys])
 
 
 def song_is_gone(program, folder):

@@ -2,10 +2,11 @@
 
     python_mpd.py SOCKET
 
-Standard input is JSON, a list of rows of a call's name and its arguments. For each row a line of JSON is printed: what the call gave, or
-the text of its refusal behind `!`.
+Standard input is JSON, a list of rows of a call's name and its arguments. For each row a line of JSON is printed: what the call gave, of
+bytes their SHA-256, or the text of its refusal behind `!`.
 """
 
+import hashlib
 import json
 import sys
 
@@ -19,4 +20,5 @@ for name, *arguments in json.load(sys.stdin):
         found = getattr(client, name)(*arguments)
     except mpd.CommandError as refusal:
         found = f"!{refusal}"
-    print(json.dumps(found if isinstance(found, (dict, list, str, type(None))) else list(found)))
+    is_plain = isinstance(found, (dict, list, str, type(None)))
+    print(json.dumps(found if is_plain else list(found), default=lambda it: hashlib.sha256(it).hexdigest()))

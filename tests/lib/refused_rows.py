@@ -316,7 +316,11 @@ class Program:
 # What a stock client asks for: in one piece, in lists, in steps with several values at once; the last one changes something.
 ASKED = ["outputs", "tagtypes enable Title", "list Title group Artist", "count group Album", "command_list_ok_begin", "lsinfo", "playlist"]
 ASKED += ["subscribe a", "channels", "sendmessage a x", "readmessages", "command_list_end"]
-ASKED += ["find \"(artist =~ 'n+a$')\" albumartist Anna sort Track", "status", "volume -30"]
+ASKED += ["find \"(artist =~ 'n+a$')\" albumartist Anna sort Track", "binarylimit 64", "albumart d/b.wav 0", "readpicture a.wav 0"]
+ASKED += ["command_list_ok_begin", "ping", "albumart d/b.wav 30", "command_list_end", "status", "volume -30"]
+# A picture that finds no room while it is asked for and read is told as one that is not there to be told.
+UNREAD = r"ACK \[[25]@[0-9]+\] \{(?:albumart|readpicture)\} (?:the picture could not be read|one picture a command list)\n"
+REFUSED = rf"ACK \[52@[0-9]+\] \{{\w+\}} out of memory\n|{UNREAD}"
 
 
 class Conversation(Program):
@@ -330,6 +334,7 @@ class Conversation(Program):
         self.name, self.words, self.answers = "program: a stock client", ["console"], None
 
     def begin(self, place):
+        scripts.write(f"{place.folder}/music/d/cover.png", b"0123456789" * 6)
         numbers = super().begin(place)
         self.answers = re.findall(r"(?:.*\n)*?(?:OK|ACK .*)\n", self.wanted[1].removeprefix(HELLO))
         return numbers
@@ -357,7 +362,7 @@ class Conversation(Program):
                 rest = rest[len(answer) :]
                 continue
             same = os.path.commonprefix([rest.splitlines(True), answer.splitlines(True)])
-            refusal = re.match(r"ACK \[52@[0-9]+\] \{\w+\} out of memory\n", "".join(rest.splitlines(True)[len(same) :]))
+            refusal = re.match(REFUSED, "".join(rest.splitlines(True)[len(same) :]))
             if not refusal:
                 return ["before", "after"] if answer.startswith(rest) else []
             if number == len(self.answers) - 1:

@@ -1,6 +1,7 @@
 """Clients of the distribution over a daemon with stock clients, where they are installed: what mpc prints, what ncmpcpp and ncmpc show,
 what calls of python-mpd2 give, what mpDris2 tells and changes."""
 
+import hashlib
 import json
 import os
 import shutil
@@ -8,9 +9,10 @@ import subprocess
 import sys
 import tempfile
 
-from daemons import LIMIT, check, wait_for
-from scripts import Failure
-from stock_rows import MODIFIED_LINE
+from daemons import LIMIT, check, update, wait_for
+from scripts import Failure, write
+from stock_rows import MODIFIED_LINE, is_of_this_hour
+from waves import with_picture
 
 # Words of mpc, how it ends, and what it prints of both streams, of the songs and the queue of lib/conversations.py; None where it is a line
 # of the player's state, in which versions of mpc differ.
@@ -241,20 +243,47 @@ def ncmpc(daemon):
         terminal.walk(NCMPC)
 
 
-def python_mpd(daemon):
+def untimed(found):
+    """What a call gives, with a playlist's time of the last hour as one that isn't known."""
+    if isinstance(found, list):
+        return [untimed(it) for it in found]
+    if isinstance(found, dict) and "playlist" in found and is_of_this_hour(found.get("last-modified", OLD["last-modified"])):
+        return {**found, "last-modified": OLD["last-modified"]}
+    return found
+
+
+def python_mpd(daemon, rows=PYTHON_MPD):
     """By the first interpreter that has python-mpd2."""
     how = {"capture_output": True, "text": True, "timeout": LIMIT, "check": False, "env": SETTINGS}
     pythons = [it for it in (sys.executable, "/usr/bin/python3") if subprocess.run([it, "-c", "import mpd"], **how).returncode == 0]
     if not pythons:
         print("python_mpd: left out, without the module mpd", flush=True)
         return
-    words = [call.split(" ") for call, _ in PYTHON_MPD]
+    words = [call.split(" ") for call, _ in rows]
     script = os.path.join(os.path.dirname(os.path.abspath(__file__)), "python_mpd.py")
     ran = subprocess.run([pythons[0], script, daemon.path], input=json.dumps(words), **how)
-    lines = [json.loads(it) for it in ran.stdout.splitlines()]
-    for (call, wanted), found in zip(PYTHON_MPD, lines):
+    lines = [untimed(json.loads(it)) for it in ran.stdout.splitlines()]
+    for (call, wanted), found in zip(rows, lines):
         check(f"python-mpd2 {call}", found, wanted)
-    check("python-mpd2", (len(lines), ran.stderr), (len(PYTHON_MPD), ""))
+    check("python-mpd2", (len(lines), ran.stderr), (len(rows), ""))
+
+
+def pictures(daemon):
+    """mpc and python-mpd2 take the pictures of an album and of a song, in many chunks; the folder is gone afterwards."""
+    found = {"albumart": bytes(range(256)) * 500, "readpicture": bytes(range(255, -1, -1)) * 400}
+    folder, uri = f"{daemon.folder}/music/p", "p/one.wav"
+    write(f"{folder}/cover.jpg", found["albumart"])
+    write(f"{folder}/one.wav", with_picture(bytes(16_000), found["readpicture"]))
+    with daemon.client() as client:
+        update(client)
+        told = {it: {"binary": hashlib.sha256(text).hexdigest()} for it, text in found.items()}
+        told["readpicture"]["type"] = "image/png"
+        python_mpd(daemon, [(f"{it} {uri}", told[it]) for it in found])
+        for it, text in found.items() if shutil.which("mpc") else []:
+            ran = subprocess.run(["mpc", "-h", daemon.path, it, uri], capture_output=True, timeout=LIMIT, check=True, env=SETTINGS)
+            check(f"mpc {it}", ran.stdout == text, True)
+        shutil.rmtree(folder)
+        update(client)
 
 
 def mpdris2(daemon):
@@ -279,6 +308,7 @@ def look(daemon):
         (ncmpcpp, ("ncmpcpp", "tmux")),
         (ncmpc, ("ncmpc", "tmux")),
         (python_mpd, ()),
+        (pictures, ()),
         (mpdris2, bus),
         (mpc, ("mpc",)),
     ):

@@ -1,6 +1,9 @@
 """What stock clients ask for beyond the daemon's own commands, and the lines that they must be told: of the table in docs/PROTOCOL.md, over
 the songs of lib/conversations.py. A text in place of lines is a refusal's code and text."""
 
+import calendar
+import time
+
 TAGS = """Title Artist Album Date Genre Comment ArtistSort AlbumSort AlbumArtist AlbumArtistSort Track Name OriginalDate Composer
 ComposerSort Performer Conductor Work Movement MovementNumber Ensemble Location Grouping Disc Label MUSICBRAINZ_ARTISTID MUSICBRAINZ_ALBUMID
 MUSICBRAINZ_ALBUMARTISTID MUSICBRAINZ_TRACKID MUSICBRAINZ_RELEASETRACKID MUSICBRAINZ_WORKID""".split()
@@ -322,6 +325,12 @@ ROWS = [
 ]
 # These two are told without a command.
 UNNAMED = ("2 bad quoting", "5 No command given")
+
+
+def is_of_this_hour(stamp):
+    """Whether a time, as a line has it, is one of the last hour."""
+    age = time.time() - calendar.timegm(time.strptime(stamp, "%Y-%m-%dT%H:%M:%SZ"))
+    return -5 < age < 3600
 
 
 def refusal(request, text, index=0):

@@ -34,6 +34,21 @@ def wave_of(sound, rate=8_000, channels=1, bits=16, mask=None, more=b""):
     return chunk("RIFF", b"WAVE" + chunk("fmt ", form) + chunk("data", data) + more)
 
 
+def with_picture(sound, picture):
+    """A WAVE file of these samples that has this front cover in its ID3v2 tag."""
+    return with_pictures(sound, (3, picture))
+
+
+def with_pictures(sound, *pictures):
+    """One that has these there, each with the number of what it shows."""
+    frames = b""
+    for shows, picture in pictures:
+        frame = b"\0image/png\0" + bytes([shows]) + b"\0" + picture
+        frames += b"APIC" + len(frame).to_bytes(4, "big") + b"\0\0" + frame
+    tag = b"ID3\x03\0\0" + bytes(len(frames) >> shift & 127 for shift in (21, 14, 7, 0)) + frames
+    return wave_of(sound, more=chunk("id3 ", tag))
+
+
 def wave_file(rate, channels, frames, seed):
     """The bytes of a WAVE file, whose samples go through all values."""
     values = array.array("h", ((it * 7919 + seed * 104729) % 65536 - 32768 for it in range(frames * channels)))

@@ -16,13 +16,13 @@ use Rattle.command_text.specs.AnswerTimes.{whole_seconds}
 abbrev pub directory_line : List ℕ → List ℕ
 directory_line path = pair (codes "directory") path
 
--- of playlists no time is kept: the wide profile tells one that clients take for unknown
-abbrev pub list_time : Profile → List ℕ
-list_time Named = []
-list_time Wide = pair (codes "Last-Modified") (time_text 0)
+-- the wide profile tells when a playlist was last changed; clients take the beginning of 1970 for unknown
+abbrev pub list_time : Profile → ℕ → List ℕ
+list_time Named seconds = []
+list_time Wide seconds = pair (codes "Last-Modified") (time_text seconds)
 
-abbrev pub playlist_lines : Profile → List ℕ → List ℕ
-playlist_lines profile name = pair (codes "playlist") name ++ list_time profile
+abbrev pub playlist_lines : Profile → ℕ → List ℕ → List ℕ
+playlist_lines profile seconds name = pair (codes "playlist") name ++ list_time profile seconds
 
 -- `sticker: NAME=VALUE`
 abbrev pub sticker_line : List ℕ → List ℕ → List ℕ

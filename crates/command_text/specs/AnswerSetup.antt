@@ -41,6 +41,7 @@ abbrev pub partition_line : List ℕ
 partition_line = pair (codes "partition") (codes "default")
 
 abbrev pub setup_lines : SetupCommand → List ℕ
+setup_lines (commands.BinaryLimit limit) = []
 setup_lines commands.Decoders = decoder_lines
 setup_lines commands.Mounts = pair (codes "mount") []
 setup_lines commands.Nothing = []

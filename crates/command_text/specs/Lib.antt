@@ -18,6 +18,7 @@ pub mod Stickers
 pub mod Playing
 pub mod Session
 pub mod Setup
+pub mod Pictures
 pub mod Refusals
 pub mod Reading
 pub mod Control
@@ -29,4 +30,5 @@ pub mod AnswerStatus
 pub mod AnswerDates
 pub mod AnswerNames
 pub mod AnswerSetup
+pub mod AnswerPictures
 pub mod NextWord

@@ -19,6 +19,7 @@ use Rattle.command_text.specs.declared.topic.MessagesName.TheVariants as message
 use Rattle.command_text.specs.declared.topic.PlayingName.TheVariants as playing
 use Rattle.command_text.specs.declared.topic.SessionName.TheVariants as session
 use Rattle.command_text.specs.declared.topic.SetupName.TheVariants as setup
+use Rattle.command_text.specs.declared.topic.PicturesName.TheVariants as pictures
 
 pub record Row : Type 0 where
   pub name : CommandName
@@ -38,7 +39,7 @@ abbrev pub rows : List Row
 rows =
     row names.Add (codes "add") (topics.Queue queue.Add) ∷
     row names.AddId (codes "addid") (topics.Queue queue.AddId) ∷
-    wide_row names.AlbumArt (codes "albumart") (topics.Setup setup.AlbumArt) ∷
+    wide_row names.AlbumArt (codes "albumart") (topics.Pictures pictures.AlbumArt) ∷
     wide_row names.BinaryLimit (codes "binarylimit") (topics.Setup setup.BinaryLimit) ∷
     wide_row names.Channels (codes "channels") (topics.Messages messages.Channels) ∷
     row names.Clear (codes "clear") (topics.Queue queue.Clear) ∷
@@ -106,7 +107,7 @@ rows =
     row names.Random (codes "random") (topics.Settings settings.Random) ∷
     wide_row names.ReadComments (codes "readcomments") (topics.Setup setup.ReadComments) ∷
     wide_row names.ReadMessages (codes "readmessages") (topics.Messages messages.ReadMessages) ∷
-    wide_row names.ReadPicture (codes "readpicture") (topics.Setup setup.ReadPicture) ∷
+    wide_row names.ReadPicture (codes "readpicture") (topics.Pictures pictures.ReadPicture) ∷
     row names.Rename (codes "rename") (topics.Lists lists.Rename) ∷
     row names.Repeat (codes "repeat") (topics.Settings settings.Repeat) ∷
     wide_row names.ReplayGainMode (codes "replay_gain_mode") (topics.Setup setup.ReplayGainMode) ∷

@@ -35,6 +35,7 @@ use Rattle.command_text.specs.Messages.{messages_of}
 use Rattle.command_text.specs.Playing.{playing_of}
 use Rattle.command_text.specs.Session.{session_of}
 use Rattle.command_text.specs.Setup.{setup_of}
+use Rattle.command_text.specs.Pictures.{pictures_of}
 
 -- the command of a topic with these arguments: their count, and then each from left to right
 unfoldable pub command_with : Profile → Topic → List Word → Result Command CommandRefusal
@@ -48,6 +49,7 @@ command_with profile (topics.Messages name) words = messages_of name words >>= �
 command_with profile (topics.Playing name) words = playing_of name words >>= λ x. Ok (commands.Playing x)
 command_with profile (topics.Session name) words = session_of name words >>= λ x. Ok (commands.Session x)
 command_with profile (topics.Setup name) words = setup_of name words >>= λ x. Ok (commands.Setup x)
+command_with profile (topics.Pictures name) words = pictures_of name words >>= λ x. Ok (commands.Pictures x)
 
 -- the end of a list stands behind a list's commands alone, and some commands stand in no list
 abbrev pub is_allowed : Place → CommandName → Result (Unit {0}) CommandRefusal
@@ -124,6 +126,7 @@ takes_memory (topics.Messages name) = false
 takes_memory (topics.Playing name) = false
 takes_memory (topics.Session name) = false
 takes_memory (topics.Setup name) = false
+takes_memory (topics.Pictures name) = false
 
 abbrev pub may_take_memory : Option CommandName → Bool
 may_take_memory None = true

@@ -49,6 +49,7 @@ row code number text = record { code = code; number = number; text = λ name. te
 -- what is told where the daemon isn't set up so: the code and the text
 abbrev pub setup_code_of : SetupRefusal → AckCode
 setup_code_of setup.AlwaysOn = Argument
+setup_code_of setup.BadOffset = Argument
 setup_code_of setup.IncorrectPassword = Password
 setup_code_of setup.NoCrossfade = Argument
 setup_code_of setup.NoMixramp = Argument
@@ -56,11 +57,15 @@ setup_code_of setup.NoNeighbors = Unknown
 setup_code_of setup.NoPicture = NoExist
 setup_code_of setup.NoSuchOutput = NoExist
 setup_code_of setup.NoSuchPartition = NoExist
+setup_code_of setup.OffsetTooLarge = Argument
+setup_code_of setup.OnePicture = Argument
+setup_code_of setup.PictureUnread = Unknown
 setup_code_of setup.UnrecognizedGain = Argument
 setup_code_of setup.UnsupportedAttribute = Argument
 
 abbrev pub setup_text_of : SetupRefusal → List ℕ
 setup_text_of setup.AlwaysOn = codes "the only output is always on"
+setup_text_of setup.BadOffset = codes "Bad file offset"
 setup_text_of setup.IncorrectPassword = codes "incorrect password"
 setup_text_of setup.NoCrossfade = codes "no crossfade here"
 setup_text_of setup.NoMixramp = codes "no mixramp here"
@@ -68,6 +73,9 @@ setup_text_of setup.NoNeighbors = codes "No neighbor plugin configured"
 setup_text_of setup.NoPicture = codes "No file exists"
 setup_text_of setup.NoSuchOutput = codes "No such audio output"
 setup_text_of setup.NoSuchPartition = codes "partition does not exist"
+setup_text_of setup.OffsetTooLarge = codes "Offset too large"
+setup_text_of setup.OnePicture = codes "one picture a command list"
+setup_text_of setup.PictureUnread = codes "the picture could not be read"
 setup_text_of setup.UnrecognizedGain = codes "Unrecognized replay gain mode"
 setup_text_of setup.UnsupportedAttribute = codes "Unsupported attribute"
 

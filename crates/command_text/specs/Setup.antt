@@ -1,15 +1,17 @@
 -- The commands of what a daemon is set up with: outputs, decoders, partitions and the like.
 -- Of each there is one that stays as it is, or none.
-use Rattle.std.specs.Prelude.{ℕ, ◌==◌, ◌||◌, List, [], ◌∷◌, length, Bool, Result, Ok, Err, codes, if◌then◌else◌}
+use Rattle.std.specs.Prelude.{ℕ, ◌==◌, ◌||◌, nat_le, List, [], ◌∷◌, length, Bool, Option, Some, None, Result, Ok, Err, codes}
+use Rattle.std.specs.Prelude.{if◌then◌else◌}
 use Rattle.std.specs.Str.{bytes_eq}
 use Rattle.command_text.specs.declared.command.setup.SetupCommand.{SetupCommand}
 use Rattle.command_text.specs.declared.command.setup.SetupCommand.TheVariants as commands
 use Rattle.command_text.specs.declared.refusal.CommandRefusal.{CommandRefusal}
-use Rattle.command_text.specs.declared.refusal.CommandRefusal.TheVariants.{WrongCount, Setup}
+use Rattle.command_text.specs.declared.refusal.CommandRefusal.TheVariants.{WrongCount, BadArgument, Setup}
 use Rattle.command_text.specs.declared.refusal.SetupRefusal.{SetupRefusal}
 use Rattle.command_text.specs.declared.refusal.SetupRefusal.TheVariants as refusals
 use Rattle.command_text.specs.declared.topic.SetupName.{SetupName}
 use Rattle.command_text.specs.declared.topic.SetupName.TheVariants as names
+use Rattle.command_text.specs.Arguments.{number_to}
 use Rattle.command_text.specs.Counts.{Word}
 
 -- how many arguments each takes
@@ -21,10 +23,16 @@ setup_count names.ListPartitions = 0
 setup_count names.Outputs = 0
 setup_count names.ReplayGainStatus = 0
 setup_count names.UrlHandlers = 0
-setup_count names.AlbumArt = 2
-setup_count names.ReadPicture = 2
 setup_count names.SetOutput = 3
 setup_count name = 1
+
+-- how many bytes of a picture an answer may have: 64 to 8400896
+abbrev pub limited : Option ℕ → Result SetupCommand CommandRefusal
+limited None = Err (BadArgument 1)
+limited (Some limit) = if nat_le 64 limit then Ok (commands.BinaryLimit limit) else Err (BadArgument 1)
+
+abbrev pub limit_of : Word → Result SetupCommand CommandRefusal
+limit_of word = limited (number_to 8400896 word)
 
 -- nothing is to be done, or it is refused
 abbrev pub if_so : Bool → SetupRefusal → Result SetupCommand CommandRefusal
@@ -40,8 +48,7 @@ is_no_gain word = bytes_eq word (codes "0") || bytes_eq word (codes "0.000000")
 
 -- the command of this name with as many arguments as it takes, of which the first is this
 abbrev pub setup_for : SetupName → Word → Result SetupCommand CommandRefusal
-setup_for names.AlbumArt word = Err (Setup refusals.NoPicture)
-setup_for names.BinaryLimit word = Ok commands.Nothing
+setup_for names.BinaryLimit word = limit_of word
 setup_for names.Crossfade word = if_so (bytes_eq word (codes "0")) refusals.NoCrossfade
 setup_for names.Decoders word = Ok commands.Decoders
 setup_for names.DisableOutput word = of_output word refusals.AlwaysOn
@@ -56,7 +63,6 @@ setup_for names.SetOutput word = of_output word refusals.UnsupportedAttribute
 setup_for names.Partition word = if_so (bytes_eq word (codes "default")) refusals.NoSuchPartition
 setup_for names.Password word = Err (Setup refusals.IncorrectPassword)
 setup_for names.ReadComments word = Ok commands.Nothing
-setup_for names.ReadPicture word = Ok commands.Nothing
 setup_for names.ReplayGainMode word = if_so (bytes_eq word (codes "off")) refusals.UnrecognizedGain
 setup_for names.ReplayGainStatus word = Ok commands.ReplayGain
 setup_for names.ToggleOutput word = of_output word refusals.AlwaysOn

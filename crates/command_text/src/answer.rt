@@ -5,6 +5,7 @@ mod ack;
 mod dates;
 mod names;
 mod pairs;
+mod pictures;
 mod setup;
 mod songs;
 mod status;
@@ -17,6 +18,7 @@ pub use names::{
 };
 pub use no_memory::NoMemory;
 pub use pairs::{write_greeting, write_list_ok, write_number, write_ok, write_pair};
+pub use pictures::write_picture;
 pub use setup::{write_setup, write_setup_status};
 pub use songs::{
     write_entry, write_file, write_id, write_named_file, write_numbered_file, write_place,

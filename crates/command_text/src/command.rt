@@ -22,6 +22,7 @@ pub mod finding;
 mod groups;
 pub mod lists;
 pub mod messages;
+pub mod pictures;
 pub mod playing;
 pub mod queue;
 pub mod session;
@@ -33,6 +34,7 @@ use database::DatabaseCommand;
 use finding::FindingCommand;
 use lists::ListsCommand;
 use messages::MessagesCommand;
+use pictures::PicturesCommand;
 use playing::PlayingCommand;
 use queue::QueueCommand;
 use session::SessionCommand;
@@ -53,6 +55,7 @@ pub enum Command<'w> {
     Playing(PlayingCommand),
     Session(SessionCommand),
     Setup(SetupCommand),
+    Pictures(PicturesCommand<'w>),
 }
 
 /// A command, and the name by which it was asked for.
@@ -183,5 +186,6 @@ fn with<'w>(
         Topic::Playing(name) => Ok(Command::Playing(playing::read(name, words)?)),
         Topic::Session(name) => Ok(Command::Session(session::read(name, words)?)),
         Topic::Setup(name) => Ok(Command::Setup(setup::read(name, words)?)),
+        Topic::Pictures(name) => Ok(Command::Pictures(pictures::read(name, words)?)),
     }
 }

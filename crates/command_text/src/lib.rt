@@ -29,15 +29,16 @@ pub use answer::{
     CurrentSong, NoMemory, StatusLines, WANT_OF_MEMORY_LENGTH, write_ack, write_changed,
     write_channel, write_commands, write_counts, write_directory, write_entry, write_file,
     write_greeting, write_id, write_job, write_list_ok, write_message, write_named_file,
-    write_number, write_numbered_file, write_ok, write_pair, write_place, write_playlist,
-    write_setup, write_setup_status, write_song, write_statistics, write_status, write_sticker,
-    write_tag_type, write_times, write_value, write_volume,
+    write_number, write_numbered_file, write_ok, write_pair, write_picture, write_place,
+    write_playlist, write_setup, write_setup_status, write_song, write_statistics, write_status,
+    write_sticker, write_tag_type, write_times, write_value, write_volume,
 };
 pub use argument::{number, number_to, window};
 pub use command::database::DatabaseCommand;
 pub use command::finding::{FindingCommand, Search};
 pub use command::lists::{ListsCommand, SaveMode};
 pub use command::messages::MessagesCommand;
+pub use command::pictures::PicturesCommand;
 pub use command::playing::PlayingCommand;
 pub use command::queue::QueueCommand;
 pub use command::session::SessionCommand;

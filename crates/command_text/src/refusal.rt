@@ -32,11 +32,13 @@ impl AckCode {
     }
 }
 
-/// Why a command of what the daemon is set up with was refused.
+/// Why a command of what the daemon is set up with, or of pictures, was refused.
 #[derive(Clone, Copy, Debug, PartialEq, Eq)]
 pub enum SetupRefusal {
     /// The only output can't be switched off.
     AlwaysOn,
+    /// An offset past the end of the picture that a song's file has inside.
+    BadOffset,
     IncorrectPassword,
     NoCrossfade,
     NoMixramp,
@@ -44,6 +46,12 @@ pub enum SetupRefusal {
     NoPicture,
     NoSuchOutput,
     NoSuchPartition,
+    /// An offset past the end of the picture of a folder.
+    OffsetTooLarge,
+    /// A command list may ask for one picture.
+    OnePicture,
+    /// A picture is there that could not be read.
+    PictureUnread,
     UnrecognizedGain,
     UnsupportedAttribute,
 }
@@ -54,12 +62,15 @@ impl SetupRefusal {
     {
         match self {
             SetupRefusal::IncorrectPassword => AckCode::Password,
-            SetupRefusal::NoNeighbors => AckCode::Unknown,
+            SetupRefusal::NoNeighbors | SetupRefusal::PictureUnread => AckCode::Unknown,
             SetupRefusal::NoPicture | SetupRefusal::NoSuchOutput | SetupRefusal::NoSuchPartition =>
                 AckCode::NoExist,
             SetupRefusal::AlwaysOn
+            | SetupRefusal::BadOffset
             | SetupRefusal::NoCrossfade
             | SetupRefusal::NoMixramp
+            | SetupRefusal::OffsetTooLarge
+            | SetupRefusal::OnePicture
             | SetupRefusal::UnrecognizedGain
             | SetupRefusal::UnsupportedAttribute => AckCode::Argument,
         }
@@ -71,6 +82,7 @@ impl SetupRefusal {
     {
         match self {
             SetupRefusal::AlwaysOn => "the only output is always on",
+            SetupRefusal::BadOffset => "Bad file offset",
             SetupRefusal::IncorrectPassword => "incorrect password",
             SetupRefusal::NoCrossfade => "no crossfade here",
             SetupRefusal::NoMixramp => "no mixramp here",
@@ -78,6 +90,9 @@ impl SetupRefusal {
             SetupRefusal::NoPicture => "No file exists",
             SetupRefusal::NoSuchOutput => "No such audio output",
             SetupRefusal::NoSuchPartition => "partition does not exist",
+            SetupRefusal::OffsetTooLarge => "Offset too large",
+            SetupRefusal::OnePicture => "one picture a command list",
+            SetupRefusal::PictureUnread => "the picture could not be read",
             SetupRefusal::UnrecognizedGain => "Unrecognized replay gain mode",
             SetupRefusal::UnsupportedAttribute => "Unsupported attribute",
         }
@@ -199,7 +214,7 @@ pub enum CommandRefusal {
     RequestTooLarge,
     /// Memory was refused while the command was performed.
     OutOfMemory,
-    /// The daemon isn't set up so.
+    /// The daemon isn't set up so, or has no such picture.
     Setup(SetupRefusal),
     /// Tags aren't named so.
     Tags(TagsRefusal),
@@ -242,7 +257,7 @@ impl CommandRefusal {
 
     /// The number of the refusal. None for the two of command lists, for a relative place without a current song, for a job
     /// that runs already, for one too many that would wait, for a request that is too large, for what the daemon isn't set up
-    /// with, for tags that aren't named so, and for messages.
+    /// with, for pictures, for tags that aren't named so, and for messages.
     pub fn number(&self) -> Option<u8>
         ensures { result ≡ command_number_of self.now }
     {

@@ -7,11 +7,12 @@ ghost use Rattle.command_text.specs.declared.topic.Topic.{Topic};
 
 use crate::name::CommandName;
 use crate::topic::Topic::{
-    self, Database, Finding, Lists, Messages, Playing, Queue, Session, Settings, Setup, Stickers,
+    self, Database, Finding, Lists, Messages, Pictures, Playing, Queue, Session, Settings, Setup,
+    Stickers,
 };
 use crate::topic::{
-    DatabaseName, FindingName, ListsName, MessagesName, PlayingName, QueueName, SessionName,
-    SettingsName, SetupName,
+    DatabaseName, FindingName, ListsName, MessagesName, PicturesName, PlayingName, QueueName,
+    SessionName, SettingsName, SetupName,
 };
 use profile::Profile::{self, Named, Wide};
 
@@ -25,7 +26,7 @@ const ROWS: &[Row] = &[
     (
         CommandName::AlbumArt,
         "albumart",
-        Setup(SetupName::AlbumArt),
+        Pictures(PicturesName::AlbumArt),
         Wide,
     ),
     (
@@ -398,7 +399,7 @@ const ROWS: &[Row] = &[
     (
         CommandName::ReadPicture,
         "readpicture",
-        Setup(SetupName::ReadPicture),
+        Pictures(PicturesName::ReadPicture),
         Wide,
     ),
     (

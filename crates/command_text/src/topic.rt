@@ -11,6 +11,7 @@ pub(crate) enum Topic {
     Playing(PlayingName),
     Session(SessionName),
     Setup(SetupName),
+    Pictures(PicturesName),
     Stickers,
     Messages(MessagesName),
 }
@@ -118,8 +119,13 @@ pub(crate) enum SessionName {
 }
 
 #[derive(Clone, Copy)]
-pub(crate) enum SetupName {
+pub(crate) enum PicturesName {
     AlbumArt,
+    ReadPicture,
+}
+
+#[derive(Clone, Copy)]
+pub(crate) enum SetupName {
     BinaryLimit,
     Crossfade,
     Decoders,
@@ -135,7 +141,6 @@ pub(crate) enum SetupName {
     Partition,
     Password,
     ReadComments,
-    ReadPicture,
     ReplayGainMode,
     ReplayGainStatus,
     ToggleOutput,

@@ -1,5 +1,5 @@
 -- What holds of all that a command may do holds of what it did.
-use Rattle.std.proofs.Common.{◌≡◌, ℕ, ◌+◌, ◌≤◌, Bool, true, false, List, ◌++◌, length, Option, Some, None, cond, Result, Ok, Err, refl, subst}
+use Rattle.std.proofs.Common.{◌≡◌, ℕ, ◌+◌, ◌≤◌, Bool, true, false, List, [], ◌∷◌, ◌++◌, length, Option, Some, None, cond, Result, Ok, Err, refl, subst}
 use Rattle.std.proofs.Common.{◌∙◌, ap, length-append, arith}
 use Rattle.std.proofs.lemmas.Grind.{flat_map-append}
 use Rattle.std.specs.Prelude.{nat_le}
@@ -7,8 +7,6 @@ use Rattle.std.proofs.lemmas.Bool.{leb-true}
 use Rattle.client_messages.specs.declared.listener.Listener.{Listener}
 use Rattle.command_text.specs.Reading.{line_reading}
 use Rattle.command_text.specs.declared.command.Command.{Command}
-use Rattle.command_text.specs.declared.command.Command.TheVariants as commands
-use Rattle.command_text.specs.declared.command.messages.MessagesCommand.{MessagesCommand}
 use Rattle.command_text.specs.declared.command.NamedCommand.{NamedCommand}
 use Rattle.command_text.specs.declared.name.CommandName.{CommandName}
 use Rattle.command_text.specs.declared.place.Place.{Place}
@@ -17,20 +15,21 @@ use Rattle.command_text.specs.declared.refusal.CommandRefusal.TheVariants.{Reque
 use Rattle.command_text.specs.declared.refusal.Refusal.{Refusal}
 use Rattle.command_text.specs.declared.refusal.Refusal.TheVariants.{OfCommand}
 use Rattle.machine_core.specs.Command.{meaning}
-use Rattle.machine_core.specs.Keeping.{keep_ops, keeps, kept}
+use Rattle.machine_core.specs.Keeping.{keep_ops, keeps, kept, times}
 use Rattle.machine_core.specs.Looks.{looks_of, max_looks, weighed}
 use Rattle.machine_core.specs.Meaning.{Meaning, Meant}
-use Rattle.machine_core.specs.Size.{longest_keep, max_request_bytes, room_by, within, within_room}
+use Rattle.machine_core.specs.Size.{longest_keep, max_request_bytes, room_by, within, within_room, time_room}
 use Rattle.machine_core.specs.State.{MachineState}
 use Rattle.machine_core.proofs.KeepingLaws.{keep_room}
 use Rattle.machine_core.proofs.KeptLaws.{kept_is}
+use Rattle.machine_core.proofs.KeptTimes.{time_op, times_keep}
 use Rattle.profile.specs.declared.profile.Profile.{Profile}
 use Rattle.profile.specs.declared.profile.Profile.TheVariants.{Named, Wide}
 use Rattle.state_codec.specs.Spelling.{ops_bytes}
 use Rattle.state_codec.specs.SpellingOps.{op_bytes}
-use Rattle.daemon_core.specs.Run.{Did, Goes, Refuses, Ends, Spent, attempted, did_of, done_of, either_does, ending_of, machine_does}
-use Rattle.daemon_core.specs.Run.{done_by, performed, read_and_performed, talk_does, talk_done, unless_it_ends, within_both}
-use Rattle.daemon_core.specs.Talk.{Talk, talk_of, talked}
+use Rattle.daemon_core.specs.Run.{Asker, Did, Goes, Refuses, Ends, Spent, attempted, did_of, done_of, either_does, ending_of, machine_does}
+use Rattle.daemon_core.specs.Run.{done_by, own_of, performed, read_and_performed, talk_does, talk_done, unless_it_ends, within_both}
+use Rattle.daemon_core.specs.Talk.{Talk}
 use Rattle.daemon_core.specs.declared.outcome.Ending.{Ending}
 
 -- A command that goes well within the limits means what it does, and its ops fit.
@@ -70,7 +69,7 @@ room_ok Wide size meant x h = within_ok Wide (size + longest_keep) meant x
     (light (within Wide (size + longest_keep) meant) x (nat_le (size + longest_keep) max_request_bytes) h)
 
 keeps_fit : (size : ℕ) (m : MachineState) (x : Meaning) → Fits m.saved.profile (size + room_by m.saved.profile) x →
-    Fits m.saved.profile size (keeps m x)
+    Fits m.saved.profile (size + time_room m.saved.profile) (keeps m x)
 keeps_fit size m x fits =
     let p = m.saved.profile in
     let bytes : length (ops_bytes p (x.ops ++ keep_ops m x.after)) ≡ length (ops_bytes p x.ops) + length (ops_bytes p (keep_ops m x.after)) =
@@ -78,23 +77,34 @@ keeps_fit size m x fits =
     ∙ length-append (ops_bytes p x.ops) (ops_bytes p (keep_ops m x.after)) in
     omega (arith, bytes, keep_room m x.after, fits)
 
+-- and with the time behind it
+times_fit : (size : ℕ) (m : MachineState) (z : Meaning) → Fits m.saved.profile (size + time_room m.saved.profile) z →
+    Fits m.saved.profile size (times m z)
+times_fit size m z fits =
+    let p = m.saved.profile in
+    times_keep (λ x. Fits m.saved.profile size x) m z (omega (arith, fits)) (λ wide lists changes.
+    let room : time_room p ≡ 9 = ap time_room wide in
+    let bytes : length (ops_bytes p (z.ops ++ time_op z ∷ [])) ≡ length (ops_bytes p z.ops) + length (ops_bytes p (time_op z ∷ [])) =
+    ap length (flat_map-append (op_bytes p) z.ops (time_op z ∷ [])) ∙ length-append (ops_bytes p z.ops) (ops_bytes p (time_op z ∷ [])) in
+    omega (arith, fits, room, bytes, length-append (op_bytes p (time_op z)) []))
+
 both_ok : (spent : Spent) (command : Command) (m : MachineState) (x : Meaning) → within_both spent command m ≡ Ok x →
-    (kept m (meaning spent.tags command m) ≡ Ok x) × Fits m.saved.profile spent.size x
+    (kept m (meaning spent.view.tags command m) ≡ Ok x) × Fits m.saved.profile spent.size x
 both_ok spent command m x h =
-    let y = kept_is m (within_room m.saved.profile spent.size (weighed spent.looks (looks_of command m) (meaning spent.tags command m))) x h in
-    let parts = room_ok m.saved.profile spent.size (weighed spent.looks (looks_of command m) (meaning spent.tags command m)) y.0 y.1 in (
-      ap (kept m) (light (meaning spent.tags command m) y.0 (nat_le (spent.looks + looks_of command m) max_looks) parts.0) ∙ ap says_so y.2,
-      subst (Fits m.saved.profile spent.size) y.2 (keeps_fit spent.size m y.0 parts.1),
+    let y = kept_is m (within_room m.saved.profile spent.size (weighed spent.looks (looks_of command m) (meaning spent.view.tags command m))) x h in
+    let parts = room_ok m.saved.profile spent.size (weighed spent.looks (looks_of command m) (meaning spent.view.tags command m)) y.0 y.1 in (
+      ap (kept m) (light (meaning spent.view.tags command m) y.0 (nat_le (spent.looks + looks_of command m) max_looks) parts.0) ∙ ap says_so y.2,
+      subst (Fits m.saved.profile spent.size) y.2 (times_fit spent.size m (keeps m y.0) (keeps_fit spent.size m y.0 parts.1)),
     )
 
--- a command of the machine, and one of messages
+-- a command of the machine, and one of the daemon's own
 machine_way : (Q : Did → Type 0) (name : CommandName) (m : MachineState) (messages : List Listener) (meant : Meant) →
     ((refusal : Refusal) → Q (Refuses refusal)) → ((x : Meaning) → meant ≡ Ok x → Q (Goes (done_of m messages x))) →
     Q (did_of name (machine_does m messages meant))
 machine_way Q name m messages (Ok x) refused goes = goes x refl
 machine_way Q name m messages (Err refusal) refused goes = refused (OfCommand name refusal)
 
--- what is known of what a command does of messages, if it is one of theirs
+-- what is known of what a command of the daemon's own does, if it is one
 abbrev OnTalk : (Did → Type 0) → MachineState → Option (Result Talk CommandRefusal) → Type 0
 OnTalk Q m None = Unit {0}
 OnTalk Q m (Some (Ok talk)) = Q (Goes (talk_done m talk))
@@ -118,37 +128,32 @@ unless_way Q (Some ending) did ends h = ends ending
 
 -- what is known of a command that goes well
 abbrev pub OfMeaning : (Did → Type 0) → Spent → MachineState → Type 0
-OfMeaning Q spent m = (command : Command) (x : Meaning) → kept m (meaning spent.tags command m) ≡ Ok x →
+OfMeaning Q spent m = (command : Command) (x : Meaning) → kept m (meaning spent.view.tags command m) ≡ Ok x →
     Fits m.saved.profile spent.size x →
     Q (Goes (done_of m spent.messages x))
 
-abbrev pub OfTalk : (Did → Type 0) → ℕ → Spent → MachineState → Type 0
-OfTalk Q c spent m = (command : MessagesCommand) (talk : Talk) → talked c spent.messages command ≡ Ok talk → Q (Goes (talk_done m talk))
+abbrev pub OfTalk : (Did → Type 0) → Asker → Spent → MachineState → Type 0
+OfTalk Q c spent m = (command : Command) (talk : Talk) → own_of c spent command m ≡ Some (Ok talk) → Q (Goes (talk_done m talk))
 
-on_talked : (Q : Did → Type 0) (c : ℕ) (spent : Spent) (m : MachineState) (command : MessagesCommand)
-    (does : Result Talk CommandRefusal) → talked c spent.messages command ≡ does → OfTalk Q c spent m → OnTalk Q m (Some does)
-on_talked Q c spent m command (Ok talk) is talks = talks command talk is
-on_talked Q c spent m command (Err refusal) is talks = tt
+on_talk : (Q : Did → Type 0) (c : Asker) (spent : Spent) (m : MachineState) (command : Command)
+    (own : Option (Result Talk CommandRefusal)) → own_of c spent command m ≡ own → OfTalk Q c spent m → OnTalk Q m own
+on_talk Q c spent m command None is talks = tt
+on_talk Q c spent m command (Some (Ok talk)) is talks = talks command talk is
+on_talk Q c spent m command (Some (Err refusal)) is talks = tt
 
-on_talk : (Q : Did → Type 0) (c : ℕ) (spent : Spent) (m : MachineState) (command : Command) → OfTalk Q c spent m →
-    OnTalk Q m (talk_of c spent.messages command)
-unfolding talk_of
-on_talk Q c spent m (commands.Messages command) talks = on_talked Q c spent m command (talked c spent.messages command) refl talks
-on_talk Q c spent m other talks = tt
-
-reading_is : (Q : Did → Type 0) (c : ℕ) (spent : Spent) (m : MachineState) (reading : Result NamedCommand Refusal) →
+reading_is : (Q : Did → Type 0) (c : Asker) (spent : Spent) (m : MachineState) (reading : Result NamedCommand Refusal) →
     ((ends : Ending) → Q (Ends ends)) → ((refusal : Refusal) → Q (Refuses refusal)) → OfTalk Q c spent m → OfMeaning Q spent m →
     Q (read_and_performed c spent m reading)
 unfolding performed done_by
 reading_is Q c spent m (Err refusal) ends refused talks goes = refused refusal
 reading_is Q c spent m (Ok named) ends refused talks goes =
     unless_way Q (ending_of named.command) _ ends
-    (either_way Q named.name m spent.messages (talk_of c spent.messages named.command) (within_both spent named.command m) refused
-    (on_talk Q c spent m named.command talks)
+    (either_way Q named.name m spent.messages (own_of c spent named.command m) (within_both spent named.command m) refused
+    (on_talk Q c spent m named.command (own_of c spent named.command m) refl talks)
     (λ x is. let parts = both_ok spent named.command m x is in goes named.command x parts.0 parts.1))
 
 -- so it is with a line
-pub line_is : (Q : Did → Type 0) (c : ℕ) (place : Place) (spent : Spent) (line : List ℕ) (m : MachineState) →
+pub line_is : (Q : Did → Type 0) (c : Asker) (place : Place) (spent : Spent) (line : List ℕ) (m : MachineState) →
     ((ends : Ending) → Q (Ends ends)) → ((refusal : Refusal) → Q (Refuses refusal)) → OfTalk Q c spent m → OfMeaning Q spent m →
     Q (attempted c place spent line m)
 unfolding attempted

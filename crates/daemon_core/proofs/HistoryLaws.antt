@@ -25,7 +25,7 @@ use Rattle.machine_core.specs.Happening.{Happening}
 use Rattle.machine_core.specs.Keeping.{kept_event, when_kept, when_resumed}
 use Rattle.machine_core.specs.Reports.{when_fed, when_ended, when_broken}
 use Rattle.machine_core.specs.Scanning.{when_found, when_scanned}
-use Rattle.daemon_core.specs.Step.{begun, connects_client, asked, asked_waiting, requested_by, waiting_of, acted, told_to, step}
+use Rattle.daemon_core.specs.Step.{asking, begun, connects_client, asked, asked_waiting, requested_by, waiting_of, acted, told_to, step}
 use Rattle.daemon_core.specs.declared.event.Event.{Event}
 use Rattle.daemon_core.specs.declared.event.Event.TheVariants as events
 use Rattle.daemon_core.specs.declared.outcome.Ending.{Ending}
@@ -177,11 +177,11 @@ keeps_runs earlier c s r rises agree = keeps_ran earlier c s r r.ending rises ag
 keeps_asked : (earlier : List Moment) (c : ℕ) (refused : Option ℕ) (s : State) (request : Request) → Rises s.clients →
     Agree earlier s.clients → Keeps earlier (asked c refused s request)
 keeps_asked earlier c refused s (Single line) rises agree =
-    keeps_runs earlier c s (ran c Alone [] refused 0 (begun c s) (line ∷ []) s.machine) rises agree
+    keeps_runs earlier c s (ran (asking c s) Alone [] refused 0 (begun c s) (line ∷ []) s.machine) rises agree
 keeps_asked earlier c refused s (CommandList lines) rises agree =
-    keeps_runs earlier c s (ran c InList [] refused 0 (begun c s) lines s.machine) rises agree
+    keeps_runs earlier c s (ran (asking c s) InList [] refused 0 (begun c s) lines s.machine) rises agree
 keeps_asked earlier c refused s (OkList lines) rises agree =
-    keeps_runs earlier c s (ran c InList list_ok refused 0 (begun c s) lines s.machine) rises agree
+    keeps_runs earlier c s (ran (asking c s) InList list_ok refused 0 (begun c s) lines s.machine) rises agree
 keeps_asked earlier c refused s Noidle rises agree = record { rises = rises; agree = agree; quiet = λ _ _. refl }
 
 keeps_waiting : (earlier : List Moment) (c : ℕ) (s : State) (request : Request) → Rises s.clients → Agree earlier s.clients →
@@ -230,6 +230,8 @@ keeps_acted earlier s (events.Clock time) refused rises agree =
 keeps_acted earlier s (events.Keep ticket) refused rises agree = keeps_happened earlier s (when_kept ticket s.machine) rises agree
 keeps_acted earlier s (events.Resume plays) refused rises agree =
     keeps_happened earlier s (when_resumed plays s.machine) rises agree
+keeps_acted earlier s (events.Picture c told) refused rises agree =
+    record { rises = rises; agree = agree; quiet = λ d e. absurd (false≢true e) }
 
 reported_number : (changed : Subsystems) (w : Watched) → let v = reported (grown changed w) in v.client ≡ w.client
 reported_number changed w = client-reported (grown changed w) (is_empty (due (grown changed w)))

@@ -26,12 +26,12 @@ use Rattle.machine_core.specs.State.{MachineState}
 use Rattle.state_codec.specs.declared.op.Op.{Op}
 use Rattle.daemon_core.specs.Kill.{kills, is_kill, reads_kill, goes_on, comes_to_kill, request_kills, asks_to_kill, ends_daemon}
 use Rattle.daemon_core.specs.Pending.{with_news}
-use Rattle.daemon_core.specs.Run.{Did, Done, Goes, Refuses, Ends, settings_ending, session_ending, ending_of, did_of, unless_it_ends}
+use Rattle.daemon_core.specs.Run.{Asker, Did, Done, Goes, Refuses, Ends, settings_ending, session_ending, ending_of, did_of, unless_it_ends}
 use Rattle.daemon_core.specs.Run.{done_by, performed, read_and_performed, attempted, Ran, wants_memory, follow, is_refused_at, ran}
 use Rattle.daemon_core.specs.Run.{Spent, spent_behind, spent_on}
 use Rattle.daemon_core.specs.Session.{Acted, of_ran, runs}
 use Rattle.daemon_core.specs.State.{State}
-use Rattle.daemon_core.specs.Step.{begun, connects_client, asked, waits_no_more, is_noidle, requested_by, waiting_of, acted, step}
+use Rattle.daemon_core.specs.Step.{asking, begun, connects_client, asked, waits_no_more, is_noidle, requested_by, waiting_of, acted, step}
 use Rattle.daemon_core.specs.declared.event.Event.{Event}
 use Rattle.daemon_core.specs.declared.event.Event.TheVariants as events
 use Rattle.daemon_core.specs.declared.outcome.Ending.{Ending}
@@ -77,7 +77,7 @@ unless_ends : (kill : Bool) (ending : Option Ending) (name : CommandName) (does 
 unless_ends kill None name does h = did_ends kill name does h
 unless_ends kill (Some ending) name does h = h
 
-reading_ends : (c : ℕ) (spent : Spent) (m : MachineState) (reading : Result NamedCommand Refusal) →
+reading_ends : (c : Asker) (spent : Spent) (m : MachineState) (reading : Result NamedCommand Refusal) →
     EndsAs (reads_kill reading) (read_and_performed c spent m reading)
 unfolding performed
 reading_ends c spent m (Err refusal) = refl
@@ -85,7 +85,7 @@ reading_ends c spent m (Ok named) =
     unless_ends (is_kill named.command) (ending_of named.command) named.name (done_by c spent named.command m)
     (command_kill named.command)
 
-line_ends : (c : ℕ) (place : Place) (spent : Spent) (line : List ℕ) (m : MachineState) →
+line_ends : (c : Asker) (place : Place) (spent : Spent) (line : List ℕ) (m : MachineState) →
     EndsAs (reads_kill (line_reading m.saved.profile place line)) (attempted c place spent line m)
 unfolding attempted
 line_ends c place spent line m = reading_ends c spent m (line_reading m.saved.profile place line)
@@ -106,7 +106,7 @@ unless_refused : (spent : Spent) (m : MachineState) (index : ℕ) (line : List �
 unless_refused spent m index line r kill true h = refl
 unless_refused spent m index line r kill false h = h
 
-ran_kills : (c : ℕ) (place : Place) (separator : List ℕ) (refused : Option ℕ) (index : ℕ) (spent : Spent) (lines : List (List ℕ))
+ran_kills : (c : Asker) (place : Place) (separator : List ℕ) (refused : Option ℕ) (index : ℕ) (spent : Spent) (lines : List (List ℕ))
     (m : MachineState) →
     let r = ran c place separator refused index spent lines m in is_killed r.ending ≡ comes_to_kill c place refused index spent lines m
 unfolding ran comes_to_kill
@@ -127,16 +127,16 @@ of_ran_ends c s r Killed = refl
 of_ran_ends c s r (Waits mask) = refl
 
 asked_ends : (c : ℕ) (refused : Option ℕ) (s : State) (request : Request) →
-    let a = asked c refused s request in a.ended ≡ request_kills c refused (begun c s) s.machine request
+    let a = asked c refused s request in a.ended ≡ request_kills (asking c s) refused (begun c s) s.machine request
 asked_ends c refused s (Single line) =
-    let r : Ran = ran c Alone [] refused 0 (begun c s) (line ∷ []) s.machine in
-    of_ran_ends c s r r.ending ∙ ran_kills c Alone [] refused 0 (begun c s) (line ∷ []) s.machine
+    let r : Ran = ran (asking c s) Alone [] refused 0 (begun c s) (line ∷ []) s.machine in
+    of_ran_ends c s r r.ending ∙ ran_kills (asking c s) Alone [] refused 0 (begun c s) (line ∷ []) s.machine
 asked_ends c refused s (CommandList lines) =
-    let r : Ran = ran c InList [] refused 0 (begun c s) lines s.machine in
-    of_ran_ends c s r r.ending ∙ ran_kills c InList [] refused 0 (begun c s) lines s.machine
+    let r : Ran = ran (asking c s) InList [] refused 0 (begun c s) lines s.machine in
+    of_ran_ends c s r r.ending ∙ ran_kills (asking c s) InList [] refused 0 (begun c s) lines s.machine
 asked_ends c refused s (OkList lines) =
-    let r : Ran = ran c InList list_ok refused 0 (begun c s) lines s.machine in
-    of_ran_ends c s r r.ending ∙ ran_kills c InList list_ok refused 0 (begun c s) lines s.machine
+    let r : Ran = ran (asking c s) InList list_ok refused 0 (begun c s) lines s.machine in
+    of_ran_ends c s r r.ending ∙ ran_kills (asking c s) InList list_ok refused 0 (begun c s) lines s.machine
 asked_ends c refused s Noidle = refl
 
 waiting_ends : (noidle : Bool) (c : ℕ) (s : State) → let a = waits_no_more noidle c s in a.ended ≡ false
@@ -165,6 +165,7 @@ acted_ends s (events.ScanDone job) refused = refl
 acted_ends s (events.Clock time) refused = refl
 acted_ends s (events.Keep ticket) refused = refl
 acted_ends s (events.Resume plays) refused = refl
+acted_ends s (events.Picture c told) refused = refl
 
 pub step_ends : (s : State) (event : Event) (refused : Option ℕ) → (step s event refused).ended ≡ ends_daemon s event refused
 unfolding step
@@ -184,10 +185,10 @@ runs_empty : (c : ℕ) (s : State) (r : Ran) → Empties (runs c s r)
 runs_empty c s r = ran_empties c s r r.ending
 
 asked_empties : (c : ℕ) (refused : Option ℕ) (s : State) (request : Request) → Empties (asked c refused s request)
-asked_empties c refused s (Single line) = runs_empty c s (ran c Alone [] refused 0 (begun c s)
+asked_empties c refused s (Single line) = runs_empty c s (ran (asking c s) Alone [] refused 0 (begun c s)
     (line ∷ []) s.machine)
-asked_empties c refused s (CommandList lines) = runs_empty c s (ran c InList [] refused 0 (begun c s) lines s.machine)
-asked_empties c refused s (OkList lines) = runs_empty c s (ran c InList list_ok refused 0 (begun c s) lines s.machine)
+asked_empties c refused s (CommandList lines) = runs_empty c s (ran (asking c s) InList [] refused 0 (begun c s) lines s.machine)
+asked_empties c refused s (OkList lines) = runs_empty c s (ran (asking c s) InList list_ok refused 0 (begun c s) lines s.machine)
 asked_empties c refused s Noidle = λ h. absurd (false≢true h)
 
 goes_on_empties : (a : Acted) → a.ended ≡ false → Empties a
@@ -213,6 +214,7 @@ acted_empties s (events.ScanDone job) refused h = absurd (false≢true h)
 acted_empties s (events.Clock time) refused h = absurd (false≢true h)
 acted_empties s (events.Keep ticket) refused h = absurd (false≢true h)
 acted_empties s (events.Resume plays) refused h = absurd (false≢true h)
+acted_empties s (events.Picture c told) refused h = absurd (false≢true h)
 
 pub step_empties : (s : State) (event : Event) (refused : Option ℕ) → (step s event refused).ended ≡ true →
     (step s event refused).after.clients ≡ []

@@ -22,12 +22,12 @@ use Rattle.song_db.specs.declared.change.RowChange.{RowChange}
 use Rattle.state_codec.specs.SavedState.{SavedState}
 use Rattle.state_codec.specs.declared.op.Op.{Op}
 use Rattle.daemon_core.specs.Replay.{Entry, replay}
-use Rattle.daemon_core.specs.Run.{Did, Goes, Refuses, Ends, attempted}
+use Rattle.daemon_core.specs.Run.{Asker, Did, Goes, Refuses, Ends, attempted}
 use Rattle.daemon_core.specs.Run.{Ran, wants_memory, follow, is_refused_at, ran}
 use Rattle.daemon_core.specs.Run.{Spent, spent_behind, spent_on}
 use Rattle.daemon_core.specs.Session.{Acted, of_ran, runs}
 use Rattle.daemon_core.specs.State.{State}
-use Rattle.daemon_core.specs.Step.{begun, connects_client, asked, waits_no_more, is_noidle, requested_by, waiting_of, acted, step}
+use Rattle.daemon_core.specs.Step.{asking, begun, connects_client, asked, waits_no_more, is_noidle, requested_by, waiting_of, acted, step}
 use Rattle.daemon_core.specs.declared.event.Event.{Event}
 use Rattle.daemon_core.specs.declared.event.Event.TheVariants as events
 use Rattle.daemon_core.proofs.DoneLaws.{line_is}
@@ -54,10 +54,10 @@ module _ (P : MachineState → Type 0) (always : IsKept P) where
   DidKeeps m (Ends ending) = Unit {0}
 
   -- a line of a request
-  line_lasts : (c : ℕ) (place : Place) (spent : Spent) (line : List ℕ) (m : MachineState) → DidKeeps m (attempted c place spent line m)
+  line_lasts : (c : Asker) (place : Place) (spent : Spent) (line : List ℕ) (m : MachineState) → DidKeeps m (attempted c place spent line m)
   line_lasts c place spent line m =
       line_is (DidKeeps m) c place spent line m (λ ending. tt) (λ refusal. tt) (λ command talk is h. h)
-      (λ command x means fits h. always.command spent.tags command m x h means)
+      (λ command x means fits h. always.command spent.view.tags command m x h means)
 
   -- the commands of a request
   abbrev RanKeeps : MachineState → Ran → Type 0
@@ -76,7 +76,7 @@ module _ (P : MachineState → Type 0) (always : IsKept P) where
   unless_refused_lasts spent m index line r true keeps = λ h. h
   unless_refused_lasts spent m index line r false keeps = keeps
 
-  ran_lasts : (c : ℕ) (place : Place) (separator : List ℕ) (refused : Option ℕ) (index : ℕ) (spent : Spent) (lines : List (List ℕ))
+  ran_lasts : (c : Asker) (place : Place) (separator : List ℕ) (refused : Option ℕ) (index : ℕ) (spent : Spent) (lines : List (List ℕ))
       (m : MachineState) →
       RanKeeps m (ran c place separator refused index spent lines m)
   unfolding ran
@@ -102,14 +102,14 @@ module _ (P : MachineState → Type 0) (always : IsKept P) where
 
   asked_lasts : (c : ℕ) (refused : Option ℕ) (s : State) (request : Request) → ActKeeps s (asked c refused s request)
   asked_lasts c refused s (Single line) =
-      runs_lasts c s (ran c Alone [] refused 0 (begun c s) (line ∷ []) s.machine)
-      (ran_lasts c Alone [] refused 0 (begun c s) (line ∷ []) s.machine)
+      runs_lasts c s (ran (asking c s) Alone [] refused 0 (begun c s) (line ∷ []) s.machine)
+      (ran_lasts (asking c s) Alone [] refused 0 (begun c s) (line ∷ []) s.machine)
   asked_lasts c refused s (CommandList lines) =
-      runs_lasts c s (ran c InList [] refused 0 (begun c s) lines s.machine) (ran_lasts c InList [] refused 0
+      runs_lasts c s (ran (asking c s) InList [] refused 0 (begun c s) lines s.machine) (ran_lasts (asking c s) InList [] refused 0
       (begun c s) lines s.machine)
   asked_lasts c refused s (OkList lines) =
-      runs_lasts c s (ran c InList list_ok refused 0 (begun c s) lines s.machine)
-      (ran_lasts c InList list_ok refused 0 (begun c s) lines s.machine)
+      runs_lasts c s (ran (asking c s) InList list_ok refused 0 (begun c s) lines s.machine)
+      (ran_lasts (asking c s) InList list_ok refused 0 (begun c s) lines s.machine)
   asked_lasts c refused s Noidle = λ h. h
 
   waiting_lasts : (noidle : Bool) (c : ℕ) (s : State) → ActKeeps s (waits_no_more noidle c s)
@@ -138,6 +138,7 @@ module _ (P : MachineState → Type 0) (always : IsKept P) where
   acted_lasts s (events.Clock time) refused = always.clocked time s.machine
   acted_lasts s (events.Keep ticket) refused = always.kept_at ticket s.machine
   acted_lasts s (events.Resume plays) refused = always.resumed plays s.machine
+  acted_lasts s (events.Picture c told) refused = λ h. h
 
   pub lasts : (saved : SavedState) → P (started saved) → (history : List Entry) → P (replay saved history).machine
   unfolding replay step

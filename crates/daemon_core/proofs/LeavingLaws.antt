@@ -27,7 +27,7 @@ use Rattle.daemon_core.specs.Replay.{Entry, stepped, replay}
 use Rattle.daemon_core.specs.Run.{Ran, ran}
 use Rattle.daemon_core.specs.Session.{Acted, happened, numbers_of, of_ran, runs}
 use Rattle.daemon_core.specs.State.{State}
-use Rattle.daemon_core.specs.Step.{begun, connects_client, asked, waits_no_more, is_noidle, requested_by, waiting_of, acted, step}
+use Rattle.daemon_core.specs.Step.{asking, begun, connects_client, asked, waits_no_more, is_noidle, requested_by, waiting_of, acted, step}
 use Rattle.daemon_core.specs.declared.event.Event.{Event}
 use Rattle.daemon_core.specs.declared.event.Event.TheVariants as events
 use Rattle.daemon_core.specs.declared.outcome.Ending.{Ending}
@@ -228,13 +228,13 @@ ran_leaves c s r (Waits mask) rises known =
 asked_leaves : (c : ℕ) (refused : Option ℕ) (s : State) (request : Request) → Rises s.clients → is_some (watched s.clients c) ≡ true →
     Leaves s.clients s.clients (asked c refused s request)
 asked_leaves c refused s (Single line) rises known =
-    let r : Ran = ran c Alone [] refused 0 (begun c s) (line ∷ []) s.machine in
+    let r : Ran = ran (asking c s) Alone [] refused 0 (begun c s) (line ∷ []) s.machine in
     ran_leaves c s r r.ending rises known
 asked_leaves c refused s (CommandList lines) rises known =
-    let r : Ran = ran c InList [] refused 0 (begun c s) lines s.machine in
+    let r : Ran = ran (asking c s) InList [] refused 0 (begun c s) lines s.machine in
     ran_leaves c s r r.ending rises known
 asked_leaves c refused s (OkList lines) rises known =
-    let r : Ran = ran c InList list_ok refused 0 (begun c s) lines s.machine in
+    let r : Ran = ran (asking c s) InList list_ok refused 0 (begun c s) lines s.machine in
     ran_leaves c s r r.ending rises known
 asked_leaves c refused s Noidle rises known = all_stay s.clients (asked c refused s Noidle) refl refl
 
@@ -277,6 +277,7 @@ acted_leaves s (events.ScanDone job) refused rises = happened_leaves s (when_sca
 acted_leaves s (events.Clock time) refused rises = all_stay s.clients (acted s (events.Clock time) refused) refl refl
 acted_leaves s (events.Keep ticket) refused rises = happened_leaves s (when_kept ticket s.machine)
 acted_leaves s (events.Resume plays) refused rises = happened_leaves s (when_resumed plays s.machine)
+acted_leaves s (events.Picture c told) refused rises = all_stay s.clients (acted s (events.Picture c told) refused) refl refl
 
 pub closed : (kept : SavedState) (history : List Entry) (entry : Entry) →
     (stepped (replay kept history) entry).closes ≡ missing
@@ -315,9 +316,9 @@ runs_close : (c : ℕ) (s : State) (r : Ran) → ClosesOwn c (runs c s r)
 runs_close c s r = ran_closes c s r r.ending
 
 asked_closes : (c : ℕ) (refused : Option ℕ) (s : State) (request : Request) → ClosesOwn c (asked c refused s request)
-asked_closes c refused s (Single line) = runs_close c s (ran c Alone [] refused 0 (begun c s) (line ∷ []) s.machine)
-asked_closes c refused s (CommandList lines) = runs_close c s (ran c InList [] refused 0 (begun c s) lines s.machine)
-asked_closes c refused s (OkList lines) = runs_close c s (ran c InList list_ok refused 0 (begun c s) lines s.machine)
+asked_closes c refused s (Single line) = runs_close c s (ran (asking c s) Alone [] refused 0 (begun c s) (line ∷ []) s.machine)
+asked_closes c refused s (CommandList lines) = runs_close c s (ran (asking c s) InList [] refused 0 (begun c s) lines s.machine)
+asked_closes c refused s (OkList lines) = runs_close c s (ran (asking c s) InList list_ok refused 0 (begun c s) lines s.machine)
 asked_closes c refused s Noidle = λ h. inl refl
 
 waiting_closes : (noidle : Bool) (c : ℕ) (s : State) → ClosesOwn c (waits_no_more noidle c s)
@@ -347,6 +348,7 @@ acted_closes s (events.ScanDone job) refused h = refl
 acted_closes s (events.Clock time) refused h = refl
 acted_closes s (events.Keep ticket) refused h = refl
 acted_closes s (events.Resume plays) refused h = refl
+acted_closes s (events.Picture c told) refused h = refl
 
 pub own : (s : State) (event : Event) (refused : Option ℕ) → (step s event refused).ended ≡ false →
     ClosesNoOther event (step s event refused).closes

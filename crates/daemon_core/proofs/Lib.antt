@@ -24,3 +24,6 @@ mod SongForms
 mod SongLaws
 mod SeenLaws
 mod ListenerLaws
+mod ToldLaws
+mod Showing
+mod PictureLaws

@@ -12,6 +12,8 @@ use Rattle.client_messages.specs.declared.listener.Listener.{Listener}
 use Rattle.client_messages.specs.declared.message.Message.{Message}
 use Rattle.client_messages.specs.declared.refusal.MessagesError.{MessagesError}
 use Rattle.command_text.specs.Answer.{list_ok}
+use Rattle.command_text.specs.declared.command.Command.{Command}
+use Rattle.command_text.specs.declared.command.Command.TheVariants as topics
 use Rattle.command_text.specs.declared.command.messages.MessagesCommand.{MessagesCommand}
 use Rattle.command_text.specs.declared.command.messages.MessagesCommand.TheVariants as commands
 use Rattle.command_text.specs.declared.place.Place.{Place}
@@ -27,13 +29,14 @@ use Rattle.state_codec.specs.SavedState.{SavedState}
 use Rattle.state_codec.specs.declared.op.Op.{Op}
 use Rattle.daemon_core.specs.Leaving.{is_one_of}
 use Rattle.daemon_core.specs.Replay.{Entry, replay}
-use Rattle.daemon_core.specs.Run.{Did, Goes, Refuses, Ends, Ran, Spent, attempted, follow, is_refused_at, ran, spent_behind, spent_on}
-use Rattle.daemon_core.specs.Run.{wants_memory}
+use Rattle.daemon_core.specs.Run.{Asker, Did, Goes, Refuses, Ends, Ran, Spent, attempted, follow, is_refused_at, ran, spent_behind, spent_on}
+use Rattle.daemon_core.specs.Run.{own_of, shows, wants_memory}
+use Rattle.daemon_core.specs.Pictures.{shown}
 use Rattle.daemon_core.specs.Running.{AreConnected}
 use Rattle.daemon_core.specs.Session.{Acted, messages_without, numbers_of, of_ran, without}
 use Rattle.daemon_core.specs.State.{State}
-use Rattle.daemon_core.specs.Step.{begun, connects_client, asked, waits_no_more, is_noidle, requested_by, waiting_of, acted, step}
-use Rattle.daemon_core.specs.Talk.{Talk, talked, unless_refused}
+use Rattle.daemon_core.specs.Step.{asking, begun, connects_client, asked, waits_no_more, is_noidle, requested_by, waiting_of, acted, step}
+use Rattle.daemon_core.specs.Talk.{Talk, talk_of, talked, unless_refused}
 use Rattle.daemon_core.specs.declared.event.Event.{Event}
 use Rattle.daemon_core.specs.declared.event.Event.TheVariants as events
 use Rattle.daemon_core.specs.declared.outcome.Ending.{Ending}
@@ -116,17 +119,34 @@ talk_keeps P c ms (commands.Unsubscribe channel) own h =
     unless_kept P (unsubscribe_refusal ms c channel) _
     (of-map P (at_client c (without_channel channel)) ms (λ l. at_client_same (without_channel channel) (λ k. refl) l (l.client == c)) h)
 
+-- one of pictures adds nobody
+show_keeps : (P : ℕ → Type 0) (ms : List Listener) (lines : Result (List ℕ) CommandRefusal) → Of P ms → TalkKeeps P (shows ms lines)
+show_keeps P ms (Ok text) h = h
+show_keeps P ms (Err refusal) h = tt
+
+abbrev OwnKeeps : (ℕ → Type 0) → Option (Result Talk CommandRefusal) → Type 0
+OwnKeeps P None = Unit {0}
+OwnKeeps P (Some does) = TalkKeeps P does
+
+own_keeps : (P : ℕ → Type 0) (c : Asker) (spent : Spent) (command : Command) (m : MachineState) → P c.client → Of P spent.messages
+    → OwnKeeps P (own_of c spent command m)
+unfolding own_of talk_of
+own_keeps P c spent (topics.Messages command) m own h = talk_keeps P c.client spent.messages command own h
+own_keeps P c spent (topics.Pictures command) m own h =
+    show_keeps P spent.messages (shown spent.view.limit c.told m.saved.songs command) h
+own_keeps P c spent other m own h = tt
+
 -- so is what a line does
 abbrev DidKeeps : (ℕ → Type 0) → Did → Type 0
 DidKeeps P (Goes x) = Of P x.messages
 DidKeeps P (Refuses refusal) = Unit {0}
 DidKeeps P (Ends ending) = Unit {0}
 
-line_keeps : (P : ℕ → Type 0) (c : ℕ) (place : Place) (spent : Spent) (line : List ℕ) (m : MachineState) → P c → Of P spent.messages →
-    DidKeeps P (attempted c place spent line m)
+line_keeps : (P : ℕ → Type 0) (c : Asker) (place : Place) (spent : Spent) (line : List ℕ) (m : MachineState) → P c.client
+    → Of P spent.messages → DidKeeps P (attempted c place spent line m)
 line_keeps P c place spent line m own h =
     line_is (DidKeeps P) c place spent line m (λ ending. tt) (λ refusal. tt)
-    (λ command talk is. subst (TalkKeeps P) is (talk_keeps P c spent.messages command own h)) (λ command x means fits. h)
+    (λ command talk is. subst (OwnKeeps P) is (own_keeps P c spent command m own h)) (λ command x means fits. h)
 
 -- the commands of a request
 follow_keeps : (P : ℕ → Type 0) (separator : List ℕ) (index : ℕ) (behind : List Op → Spent) (m : MachineState)
@@ -142,8 +162,8 @@ unless_refused_keeps : (P : ℕ → Type 0) (spent : Spent) (m : MachineState) (
 unless_refused_keeps P spent m index line r true h k = h
 unless_refused_keeps P spent m index line r false h k = k
 
-ran_keeps : (P : ℕ → Type 0) (c : ℕ) (place : Place) (separator : List ℕ) (refused : Option ℕ) (index : ℕ) (spent : Spent)
-    (lines : List (List ℕ)) (m : MachineState) → P c → Of P spent.messages →
+ran_keeps : (P : ℕ → Type 0) (c : Asker) (place : Place) (separator : List ℕ) (refused : Option ℕ) (index : ℕ) (spent : Spent)
+    (lines : List (List ℕ)) (m : MachineState) → P c.client → Of P spent.messages →
     let r = ran c place separator refused index spent lines m in Of P r.messages
 unfolding ran
 ran_keeps P c place separator refused index spent [] m own h = h
@@ -217,17 +237,17 @@ of_ran_connected c s r (Waits mask) h = same_numbers s.clients _ r.messages (num
 asked_connected : (c : ℕ) (refused : Option ℕ) (s : State) (request : Request) → is_some (watched s.clients c) ≡ true → Connected s →
     let a = asked c refused s request in Connected a.after
 asked_connected c refused s (Single line) is h =
-    let r : Ran = ran c Alone [] refused 0 (begun c s) (line ∷ []) s.machine in
+    let r : Ran = ran (asking c s) Alone [] refused 0 (begun c s) (line ∷ []) s.machine in
     of_ran_connected c s r r.ending
-    (ran_keeps (IsConnected s.clients) c Alone [] refused 0 (begun c s) (line ∷ []) s.machine (known c s.clients is) h)
+    (ran_keeps (IsConnected s.clients) (asking c s) Alone [] refused 0 (begun c s) (line ∷ []) s.machine (known c s.clients is) h)
 asked_connected c refused s (CommandList lines) is h =
-    let r : Ran = ran c InList [] refused 0 (begun c s) lines s.machine in
+    let r : Ran = ran (asking c s) InList [] refused 0 (begun c s) lines s.machine in
     of_ran_connected c s r r.ending
-    (ran_keeps (IsConnected s.clients) c InList [] refused 0 (begun c s) lines s.machine (known c s.clients is) h)
+    (ran_keeps (IsConnected s.clients) (asking c s) InList [] refused 0 (begun c s) lines s.machine (known c s.clients is) h)
 asked_connected c refused s (OkList lines) is h =
-    let r : Ran = ran c InList list_ok refused 0 (begun c s) lines s.machine in
+    let r : Ran = ran (asking c s) InList list_ok refused 0 (begun c s) lines s.machine in
     of_ran_connected c s r r.ending
-    (ran_keeps (IsConnected s.clients) c InList list_ok refused 0 (begun c s) lines s.machine (known c s.clients is) h)
+    (ran_keeps (IsConnected s.clients) (asking c s) InList list_ok refused 0 (begun c s) lines s.machine (known c s.clients is) h)
 asked_connected c refused s Noidle is h = h
 
 gone_connected : (c : ℕ) (s : State) → Connected s → Connected (without c s)
@@ -265,6 +285,7 @@ acted_connected s (events.ScanDone job) refused h = h
 acted_connected s (events.Clock time) refused h = h
 acted_connected s (events.Keep ticket) refused h = h
 acted_connected s (events.Resume plays) refused h = h
+acted_connected s (events.Picture c told) refused h = h
 
 pub connected : (kept : SavedState) (history : List Entry) → AreConnected (replay kept history).clients (replay kept history).messages
 unfolding replay step

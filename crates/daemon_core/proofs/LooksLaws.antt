@@ -13,11 +13,11 @@ use Rattle.idle_masks.specs.declared.watch.Watched.{Watched}
 use Rattle.machine_core.specs.Looks.{looked, max_looks}
 use Rattle.machine_core.specs.State.{MachineState}
 use Rattle.state_codec.specs.declared.op.Op.{Op}
-use Rattle.daemon_core.specs.Run.{Did, Goes, Refuses, Ends, Ran, Spent, attempted, follow, is_refused_at, looks_of_line, ran, spent_behind}
+use Rattle.daemon_core.specs.Run.{Asker, Did, Goes, Refuses, Ends, Ran, Spent, attempted, follow, is_refused_at, looks_of_line, ran, spent_behind}
 use Rattle.daemon_core.specs.Run.{spent_on, wants_memory}
 use Rattle.daemon_core.specs.Session.{of_ran, runs}
 use Rattle.daemon_core.specs.State.{State}
-use Rattle.daemon_core.specs.Step.{acted, asked, begun, connects_client, is_noidle, requested_by, step, waiting_of, waits_no_more}
+use Rattle.daemon_core.specs.Step.{asking, acted, asked, begun, connects_client, is_noidle, requested_by, step, waiting_of, waits_no_more}
 use Rattle.daemon_core.specs.declared.event.Event.{Event}
 use Rattle.daemon_core.specs.declared.event.Event.TheVariants as events
 use Rattle.daemon_core.specs.declared.outcome.Ending.{Ending}
@@ -47,7 +47,7 @@ unless_refused : (spent : Spent) (m : MachineState) (index : ℕ) (line : List �
 unless_refused spent m index line r true within = omega arith
 unless_refused spent m index line r false within = within
 
-ran_within : (c : ℕ) (place : Place) (separator : List ℕ) (refused : Option ℕ) (index : ℕ) (spent : Spent) (lines : List (List ℕ))
+ran_within : (c : Asker) (place : Place) (separator : List ℕ) (refused : Option ℕ) (index : ℕ) (spent : Spent) (lines : List (List ℕ))
     (m : MachineState) →
     spent.looks ≤ max_looks → let r = ran c place separator refused index spent lines m in r.looks ≤ max_looks
 unfolding ran
@@ -68,10 +68,10 @@ runs_within : (c : ℕ) (s : State) (r : Ran) → r.looks ≤ max_looks → let 
 runs_within c s r within = of_ran_within c s r r.ending within
 
 asked_within : (c : ℕ) (refused : Option ℕ) (s : State) (request : Request) → let a = asked c refused s request in a.looks ≤ max_looks
-asked_within c refused s (Single line) = runs_within c s _ (ran_within c Alone [] refused 0 (begun c s)
+asked_within c refused s (Single line) = runs_within c s _ (ran_within (asking c s) Alone [] refused 0 (begun c s)
     (line ∷ []) s.machine (omega arith))
-asked_within c refused s (CommandList lines) = runs_within c s _ (ran_within c InList [] refused 0 (begun c s) lines s.machine (omega arith))
-asked_within c refused s (OkList lines) = runs_within c s _ (ran_within c InList list_ok refused 0 (begun c s) lines s.machine (omega arith))
+asked_within c refused s (CommandList lines) = runs_within c s _ (ran_within (asking c s) InList [] refused 0 (begun c s) lines s.machine (omega arith))
+asked_within c refused s (OkList lines) = runs_within c s _ (ran_within (asking c s) InList list_ok refused 0 (begun c s) lines s.machine (omega arith))
 asked_within c refused s Noidle = omega arith
 
 waits_within : (noidle : Bool) (c : ℕ) (s : State) → let a = waits_no_more noidle c s in a.looks ≤ max_looks
@@ -100,6 +100,7 @@ acted_within s (events.ScanDone job) refused = omega arith
 acted_within s (events.Clock time) refused = omega arith
 acted_within s (events.Keep ticket) refused = omega arith
 acted_within s (events.Resume plays) refused = omega arith
+acted_within s (events.Picture c told) refused = omega arith
 
 pub step_within : (s : State) (event : Event) (refused : Option ℕ) → let now = step s event refused in now.looks ≤ max_looks
 unfolding step

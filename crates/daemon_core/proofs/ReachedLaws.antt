@@ -12,11 +12,11 @@ use Rattle.idle_masks.specs.declared.subsystem.Subsystems.{Subsystems}
 use Rattle.idle_masks.specs.declared.watch.Watched.{Watched}
 use Rattle.machine_core.specs.State.{MachineState}
 use Rattle.state_codec.specs.declared.op.Op.{Op}
-use Rattle.daemon_core.specs.Run.{Did, Goes, Refuses, Ends, attempted, Ran, wants_memory, preceded, follow, is_refused_at, ran}
+use Rattle.daemon_core.specs.Run.{Asker, Did, Goes, Refuses, Ends, attempted, Ran, wants_memory, preceded, follow, is_refused_at, ran}
 use Rattle.daemon_core.specs.Run.{Spent, spent_behind, spent_on}
 use Rattle.daemon_core.specs.Session.{Acted, of_ran, runs}
 use Rattle.daemon_core.specs.State.{State}
-use Rattle.daemon_core.specs.Step.{begun, connects_client, asked, waits_no_more, is_noidle, requested_by, waiting_of, acted, settles, step}
+use Rattle.daemon_core.specs.Step.{asking, begun, connects_client, asked, waits_no_more, is_noidle, requested_by, waiting_of, acted, settles, step}
 use Rattle.daemon_core.specs.declared.event.Event.{Event}
 use Rattle.daemon_core.specs.declared.event.Event.TheVariants as events
 use Rattle.daemon_core.specs.declared.outcome.Ending.{Ending}
@@ -54,7 +54,7 @@ follow_reaches separator index behind m refused rest free (Goes x) later =
 follow_reaches separator index behind m refused rest free (Refuses refusal) later = inr refl
 follow_reaches separator index behind m refused rest free (Ends ending) later = inr refl
 
-ran_reaches : (c : ℕ) (place : Place) (separator : List ℕ) (refused : Option ℕ) (index : ℕ) (spent : Spent) (lines : List (List ℕ))
+ran_reaches : (c : Asker) (place : Place) (separator : List ℕ) (refused : Option ℕ) (index : ℕ) (spent : Spent) (lines : List (List ℕ))
     (m : MachineState) →
     Reaches refused (ran c place separator refused index spent lines m) (ran c place separator None index spent lines m)
 unfolding ran
@@ -74,7 +74,7 @@ follow_names_none separator index behind m rest (Goes x) later = later (spent_on
 follow_names_none separator index behind m rest (Refuses refusal) later = refl
 follow_names_none separator index behind m rest (Ends ending) later = refl
 
-ran_names_none : (c : ℕ) (place : Place) (separator : List ℕ) (index : ℕ) (spent : Spent) (lines : List (List ℕ)) (m : MachineState) →
+ran_names_none : (c : Asker) (place : Place) (separator : List ℕ) (index : ℕ) (spent : Spent) (lines : List (List ℕ)) (m : MachineState) →
     let r = ran c place separator None index spent lines m in r.refused_at ≡ None
 unfolding ran
 ran_names_none c place separator index spent [] m = refl
@@ -100,9 +100,9 @@ runs_reaches c s refused r free (inr e) = inr (ap (runs c s) e)
 
 asked_reaches : (c : ℕ) (refused : Option ℕ) (s : State) (request : Request) →
     ActReaches refused (asked c refused s request) (asked c None s request)
-asked_reaches c refused s (Single line) = runs_reaches c s refused _ _ (ran_reaches c Alone [] refused 0 (begun c s) (line ∷ []) s.machine)
-asked_reaches c refused s (CommandList lines) = runs_reaches c s refused _ _ (ran_reaches c InList [] refused 0 (begun c s) lines s.machine)
-asked_reaches c refused s (OkList lines) = runs_reaches c s refused _ _ (ran_reaches c InList list_ok refused 0 (begun c s) lines s.machine)
+asked_reaches c refused s (Single line) = runs_reaches c s refused _ _ (ran_reaches (asking c s) Alone [] refused 0 (begun c s) (line ∷ []) s.machine)
+asked_reaches c refused s (CommandList lines) = runs_reaches c s refused _ _ (ran_reaches (asking c s) InList [] refused 0 (begun c s) lines s.machine)
+asked_reaches c refused s (OkList lines) = runs_reaches c s refused _ _ (ran_reaches (asking c s) InList list_ok refused 0 (begun c s) lines s.machine)
 asked_reaches c refused s Noidle = inr refl
 
 requested_reaches : (c : ℕ) (refused : Option ℕ) (s : State) (request : Request) (found : Option (Option Subsystems)) →
@@ -123,6 +123,7 @@ acted_reaches s (events.ScanDone job) refused = inr refl
 acted_reaches s (events.Clock time) refused = inr refl
 acted_reaches s (events.Keep ticket) refused = inr refl
 acted_reaches s (events.Resume plays) refused = inr refl
+acted_reaches s (events.Picture c told) refused = inr refl
 
 settles_reaches : (refused : Option ℕ) (a free : Acted) → ActReaches refused a free →
     (let now = settles a in now.refused_at ≡ refused) ⊎ (settles a ≡ settles free)
@@ -138,10 +139,10 @@ ran_place : (c : ℕ) (s : State) (r : Ran) → r.refused_at ≡ None → let a 
 ran_place c s r none = of_ran_place c s r r.ending ∙ none
 
 asked_names_none : (c : ℕ) (s : State) (request : Request) → let a = asked c None s request in a.refused_at ≡ None
-asked_names_none c s (Single line) = ran_place c s _ (ran_names_none c Alone [] 0 (begun c s)
+asked_names_none c s (Single line) = ran_place c s _ (ran_names_none (asking c s) Alone [] 0 (begun c s)
     (line ∷ []) s.machine)
-asked_names_none c s (CommandList lines) = ran_place c s _ (ran_names_none c InList [] 0 (begun c s) lines s.machine)
-asked_names_none c s (OkList lines) = ran_place c s _ (ran_names_none c InList list_ok 0 (begun c s) lines s.machine)
+asked_names_none c s (CommandList lines) = ran_place c s _ (ran_names_none (asking c s) InList [] 0 (begun c s) lines s.machine)
+asked_names_none c s (OkList lines) = ran_place c s _ (ran_names_none (asking c s) InList list_ok 0 (begun c s) lines s.machine)
 asked_names_none c s Noidle = refl
 
 waiting_names_none : (noidle : Bool) (c : ℕ) (s : State) → let a = waits_no_more noidle c s in a.refused_at ≡ None
@@ -170,6 +171,7 @@ acted_names_none s (events.ScanDone job) = refl
 acted_names_none s (events.Clock time) = refl
 acted_names_none s (events.Keep ticket) = refl
 acted_names_none s (events.Resume plays) = refl
+acted_names_none s (events.Picture c told) = refl
 
 pub step_names_none : (s : State) (event : Event) → (step s event None).refused_at ≡ None
 unfolding step

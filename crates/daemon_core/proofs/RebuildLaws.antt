@@ -29,13 +29,13 @@ use Rattle.state_codec.specs.Sealed.{checksum_len}
 use Rattle.state_codec.specs.Spelling.{ops_bytes}
 use Rattle.state_codec.specs.SpellingOps.{op_bytes}
 use Rattle.state_codec.specs.declared.op.Op.{Op}
-use Rattle.daemon_core.specs.Run.{Did, Goes, Refuses, Ends, attempted}
+use Rattle.daemon_core.specs.Run.{Asker, Did, Goes, Refuses, Ends, attempted}
 use Rattle.daemon_core.specs.Run.{Ran, wants_memory, follow, is_refused_at, ran}
 use Rattle.daemon_core.specs.Run.{Spent, spent_behind, spent_on}
 use Rattle.daemon_core.specs.Reported.{IsRebuilt, IsReported}
 use Rattle.daemon_core.specs.Session.{happened, of_ran, runs}
 use Rattle.daemon_core.specs.State.{State}
-use Rattle.daemon_core.specs.Step.{begun, connects_client, asked, waits_no_more, is_noidle, requested_by, waiting_of, acted, step}
+use Rattle.daemon_core.specs.Step.{asking, begun, connects_client, asked, waits_no_more, is_noidle, requested_by, waiting_of, acted, step}
 use Rattle.daemon_core.specs.declared.event.Event.{Event}
 use Rattle.daemon_core.specs.declared.event.Event.TheVariants as events
 use Rattle.daemon_core.proofs.DoneLaws.{line_is}
@@ -61,12 +61,12 @@ Rebuilds size m (Ends ending) = Unit {0}
 none_more : (profile : Profile) (size : ℕ) → size ≤ max_request_bytes → size + length (ops_bytes profile []) ≤ max_request_bytes
 none_more profile size within = omega (arith, within)
 
-attempted_rebuilds : (law : CommandsRebuild) (c : ℕ) (place : Place) (spent : Spent) (line : List ℕ) (m : MachineState) →
+attempted_rebuilds : (law : CommandsRebuild) (c : Asker) (place : Place) (spent : Spent) (line : List ℕ) (m : MachineState) →
     spent.size ≤ max_request_bytes → Rebuilds spent.size m (attempted c place spent line m)
 attempted_rebuilds law c place spent line m within =
     line_is (Rebuilds spent.size m) c place spent line m (λ ending. tt) (λ refusal. tt)
     (λ command talk is. record { state = refl; fits = none_more m.saved.profile spent.size within })
-    (λ command x means fits. record { state = law spent.tags command m x means; fits = fits })
+    (λ command x means fits. record { state = law spent.view.tags command m x means; fits = fits })
 
 ops_bytes-append : (profile : Profile) (a b : List Op)
     → length (ops_bytes profile (a ++ b)) ≡ length (ops_bytes profile a) + length (ops_bytes profile b)
@@ -107,7 +107,7 @@ here_rebuilds : (size : ℕ) (spent : Spent) (m : MachineState) (index : ℕ) (l
 here_rebuilds size spent m index line r true within same = record { state = refl; fits = omega (arith, within) }
 here_rebuilds size spent m index line r false within same = same
 
-ran_rebuilds : (law : CommandsRebuild) (c : ℕ) (place : Place) (separator : List ℕ) (refused : Option ℕ) (index : ℕ) (spent : Spent)
+ran_rebuilds : (law : CommandsRebuild) (c : Asker) (place : Place) (separator : List ℕ) (refused : Option ℕ) (index : ℕ) (spent : Spent)
     (lines : List (List ℕ)) (m : MachineState) → spent.size ≤ max_request_bytes →
     let r = ran c place separator refused index spent lines m in Rebuilt spent.size m r.after r.ops
 unfolding ran
@@ -143,13 +143,13 @@ runs_rebuilds c s r h = of_ran_rebuilds c s r r.ending h
 asked_rebuilds : (law : CommandsRebuild) (c : ℕ) (refused : Option ℕ) (s : State) (request : Request) →
     let a = asked c refused s request in WholeRebuilt s.machine a.after.machine a.ops
 asked_rebuilds law c refused s (Single line) =
-    runs_rebuilds c s _ (ran_rebuilds law c Alone [] refused 0 (begun c s) (line ∷ []) s.machine
+    runs_rebuilds c s _ (ran_rebuilds law (asking c s) Alone [] refused 0 (begun c s) (line ∷ []) s.machine
     (checksum_fits s.machine.saved.profile))
 asked_rebuilds law c refused s (CommandList lines) =
-    runs_rebuilds c s _ (ran_rebuilds law c InList [] refused 0 (begun c s) lines s.machine
+    runs_rebuilds c s _ (ran_rebuilds law (asking c s) InList [] refused 0 (begun c s) lines s.machine
     (checksum_fits s.machine.saved.profile))
 asked_rebuilds law c refused s (OkList lines) =
-    runs_rebuilds c s _ (ran_rebuilds law c InList list_ok refused 0 (begun c s) lines s.machine
+    runs_rebuilds c s _ (ran_rebuilds law (asking c s) InList list_ok refused 0 (begun c s) lines s.machine
     (checksum_fits s.machine.saved.profile))
 asked_rebuilds law c refused s Noidle = same s
 
@@ -190,6 +190,7 @@ acted_rebuilds law s (events.ScanDone job) refused reported = happened_rebuilds 
 acted_rebuilds law s (events.Clock time) refused reported = record { state = refl; fits = none_fits s.machine }
 acted_rebuilds law s (events.Keep ticket) refused reported = happened_rebuilds s (when_kept ticket s.machine) reported
 acted_rebuilds law s (events.Resume plays) refused reported = happened_rebuilds s (when_resumed plays s.machine) reported
+acted_rebuilds law s (events.Picture c told) refused reported = record { state = refl; fits = none_fits s.machine }
 
 pub step_rebuilds : (law : CommandsRebuild) (s : State) (event : Event) (refused : Option ℕ) → IsReported event s.machine →
     let r = step s event refused in WholeRebuilt s.machine r.after.machine r.ops

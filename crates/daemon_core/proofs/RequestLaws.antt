@@ -10,6 +10,10 @@ use Rattle.command_text.specs.declared.command.Command.{Command}
 use Rattle.command_text.specs.declared.command.Command.TheVariants as commands
 use Rattle.client_messages.specs.declared.listener.Listener.{Listener}
 use Rattle.command_text.specs.declared.command.messages.MessagesCommand.{MessagesCommand}
+use Rattle.command_text.specs.declared.command.pictures.PicturesCommand.{PicturesCommand}
+use Rattle.daemon_core.specs.Pictures.{shown, IsShownRefusal, WentShowing}
+use Rattle.daemon_core.specs.Run.{shows}
+use Rattle.daemon_core.specs.Talk.{silent}
 use Rattle.command_text.specs.declared.command.NamedCommand.{NamedCommand}
 use Rattle.command_text.specs.declared.command.session.SessionCommand.{SessionCommand}
 use Rattle.command_text.specs.declared.command.session.SessionCommand.TheVariants as session
@@ -21,7 +25,7 @@ use Rattle.command_text.specs.declared.refusal.ReadError.{ReadError}
 use Rattle.command_text.specs.declared.refusal.ReadError.TheVariants as errors
 use Rattle.command_text.specs.declared.refusal.Refusal.{Refusal}
 use Rattle.command_text.specs.declared.refusal.Refusal.TheVariants.{OfCommand}
-use Rattle.command_text.specs.declared.tag_mask.TagMask.{TagMask}
+use Rattle.daemon_core.specs.declared.view.View.{View}
 use Rattle.idle_masks.specs.Subsystems.{contains, none, union}
 use Rattle.idle_masks.specs.declared.subsystem.Subsystems.{Subsystems}
 use Rattle.machine_core.specs.Changed.{changed}
@@ -43,18 +47,20 @@ use Rattle.daemon_core.specs.Handled.{Does}
 use Rattle.daemon_core.specs.Parts.{state_of}
 use Rattle.daemon_core.specs.Request.{stop_of_reading, ran_of, IsPerformed, IsNotPerformed, IsRefusalBy, RunsCommand, WentOn, IsStop}
 use Rattle.daemon_core.specs.Request.{Stopped, RunsLine, AnswersStop}
-use Rattle.daemon_core.specs.Request.{CountsLooks, RunsLines, SeesTags, looks_at_end, tags_at_end}
+use Rattle.daemon_core.specs.Request.{CountsLooks, RunsLines, HasView, looks_at_end, view_at_end}
 use Rattle.daemon_core.specs.Session.{of_ran, runs}
-use Rattle.daemon_core.specs.Run.{Did, Done, Goes, Refuses, Ends, ending_of, did_of, unless_it_ends, performed, read_and_performed}
+use Rattle.daemon_core.specs.Run.{Asker, own_of, Did, Done, Goes, Refuses, Ends, ending_of, did_of, unless_it_ends, performed, read_and_performed}
 use Rattle.daemon_core.specs.Run.{attempted, done_by, done_of, either_does, machine_does, talk_does, talk_done}
 use Rattle.daemon_core.specs.Run.{Ran, ends, wants_memory, preceded, follow, is_refused_at, ran, session_ending, settings_ending}
-use Rattle.daemon_core.specs.Run.{Spent, looks_of_line, looks_read, spent_behind, spent_of, spent_on, tags_behind, tags_of_line, tags_read}
+use Rattle.daemon_core.specs.Run.{Spent, looks_of_line, looks_read, spent_behind, spent_of, spent_on, view_of_line, view_read}
+use Rattle.daemon_core.specs.Views.{view_behind}
+use Rattle.daemon_core.specs.declared.picture.ClientPicture.{ClientPicture}
 use Rattle.daemon_core.specs.Run.{within_both}
-use Rattle.daemon_core.specs.Seen.{tags_seen}
-use Rattle.daemon_core.specs.Step.{begun}
+use Rattle.daemon_core.specs.Seen.{view_of}
+use Rattle.daemon_core.specs.Step.{asking, begun}
 use Rattle.daemon_core.specs.Talk.{Talk, talk_of, talked}
 use Rattle.daemon_core.specs.Talking.{IsSame, IsTalkRefusal, RunsTalk}
-use Rattle.daemon_core.specs.declared.masks.ClientMask.{ClientMask}
+use Rattle.daemon_core.specs.declared.views.ClientView.{ClientView}
 use Rattle.daemon_core.specs.declared.outcome.Ending.{Ending}
 use Rattle.daemon_core.specs.declared.handled.Handled.{Handled}
 use Rattle.daemon_core.specs.declared.outcome.Ending.TheVariants.{Answered, Closed, Killed, Waits}
@@ -100,59 +106,59 @@ pub read_under : {p q : Profile} (place : Place) (words : List (List ℕ)) (r : 
 read_under place words r same h = subst (λ (x : Profile). Gives r (command_of x place words)) same h
 
 -- a line that was read
-pub read_performed : (c : ℕ) (place : Place) (spent : Spent) (line : List ℕ) (words : List (List ℕ)) (m : MachineState) (named : NamedCommand) →
+pub read_performed : (c : Asker) (place : Place) (spent : Spent) (line : List ℕ) (words : List (List ℕ)) (m : MachineState) (named : NamedCommand) →
     line_words line ≡ Ok words → command_of m.saved.profile place words ≡ Ok named → performed c spent named m ≡ attempted c place spent line m
 unfolding attempted line_reading
 read_performed c place spent line words m named parted read =
     sym (ap (λ w. read_and_performed c spent m (command_in m.saved.profile place w)) parted ∙ ap (read_and_performed c spent m) read)
 
 -- a line whose words were refused, or that no command is read from
-pub words_refused : (c : ℕ) (place : Place) (spent : Spent) (line : List ℕ) (m : MachineState) (refusal : Refusal) → line_words line ≡ Err refusal →
+pub words_refused : (c : Asker) (place : Place) (spent : Spent) (line : List ℕ) (m : MachineState) (refusal : Refusal) → line_words line ≡ Err refusal →
     attempted c place spent line m ≡ Refuses refusal
 unfolding attempted line_reading
 words_refused c place spent line m refusal parted = ap (λ w. read_and_performed c spent m (command_in m.saved.profile place w)) parted
 
-pub command_refused : (c : ℕ) (place : Place) (spent : Spent) (line : List ℕ) (words : List (List ℕ)) (m : MachineState) (refusal : Refusal) →
+pub command_refused : (c : Asker) (place : Place) (spent : Spent) (line : List ℕ) (words : List (List ℕ)) (m : MachineState) (refusal : Refusal) →
     line_words line ≡ Ok words → command_of m.saved.profile place words ≡ Err refusal → attempted c place spent line m ≡ Refuses refusal
 unfolding attempted line_reading
 command_refused c place spent line words m refusal parted read =
     ap (λ w. read_and_performed c spent m (command_in m.saved.profile place w)) parted ∙ ap (read_and_performed c spent m) read
 
 -- a command that ends its request, and one that means something
-pub performed_ends : (c : ℕ) (spent : Spent) (named : NamedCommand) (m : MachineState) (ending : Ending) →
+pub performed_ends : (c : Asker) (spent : Spent) (named : NamedCommand) (m : MachineState) (ending : Ending) →
     ending_of named.command ≡ Some ending → performed c spent named m ≡ Ends ending
 unfolding performed
 performed_ends c spent named m ending is = ap (λ e. unless_it_ends e (did_of named.name (done_by c spent named.command m))) is
 
-performed_did : (c : ℕ) (spent : Spent) (named : NamedCommand) (m : MachineState) (does : Result Done CommandRefusal) →
+performed_did : (c : Asker) (spent : Spent) (named : NamedCommand) (m : MachineState) (does : Result Done CommandRefusal) →
     ending_of named.command ≡ None → done_by c spent named.command m ≡ does → performed c spent named m ≡ did_of named.name does
 unfolding performed
 performed_did c spent named m does is same =
     ap (λ e. unless_it_ends e (did_of named.name (done_by c spent named.command m))) is ∙ ap (did_of named.name) same
 
-pub performed_refuses : (c : ℕ) (spent : Spent) (named : NamedCommand) (m : MachineState) (refusal : CommandRefusal) →
+pub performed_refuses : (c : Asker) (spent : Spent) (named : NamedCommand) (m : MachineState) (refusal : CommandRefusal) →
     ending_of named.command ≡ None → done_by c spent named.command m ≡ Err refusal →
     performed c spent named m ≡ Refuses (OfCommand named.name refusal)
 performed_refuses c spent named m refusal is same = performed_did c spent named m (Err refusal) is same
 
--- a command that is none of messages does what it means
-machine_is : (c : ℕ) (spent : Spent) (command : Command) (m : MachineState) (meant : Meant) → talk_of c spent.messages command ≡ None →
+-- a command that is none of the daemon's own does what it means
+machine_is : (c : Asker) (spent : Spent) (command : Command) (m : MachineState) (meant : Meant) → own_of c spent command m ≡ None →
     within_both spent command m ≡ meant → done_by c spent command m ≡ machine_does m spent.messages meant
 unfolding done_by
 machine_is c spent command m meant other same =
     ap (λ o. either_does m spent.messages o (within_both spent command m)) other ∙ ap (machine_does m spent.messages) same
 
-pub machine_performs : (c : ℕ) (command : Command) (s t : MachineState) (talks : Talks) (before after : Work) (looks : ℕ) (tags : TagMask)
-    (set : Subsystems) → talk_of c talks.messages command ≡ None →
+pub machine_performs : (c : Asker) (command : Command) (s t : MachineState) (talks : Talks) (before after : Work) (looks : ℕ) (view : View)
+    (set : Subsystems) → own_of c (spent_of before.size looks view talks.messages) command s ≡ None →
     WentKept s.saved.profile (kept s (within_room s.saved.profile before.size (weighed looks (looks_of command s)
-    (meaning tags command s)))) t before after → set ≡ changed s t →
-    IsPerformed (done_by c (spent_of before.size looks tags talks.messages) command s) s t talks talks before after set
-machine_performs c command s t talks before after looks tags set other went same =
+    (meaning view.tags command s)))) t before after → set ≡ changed s t →
+    IsPerformed (done_by c (spent_of before.size looks view talks.messages) command s) s t talks talks before after set
+machine_performs c command s t talks before after looks view set other went same =
     let x : Meaning = went.meaning in
     let a = went.ops in
     record {
       what = done_of s talks.messages x;
-      is = machine_is c (spent_of before.size looks tags talks.messages) command s (Ok x) other went.means;
+      is = machine_is c (spent_of before.size looks view talks.messages) command s (Ok x) other went.means;
       stands = went.stands;
       messages = refl;
       notified = sym (append-nil talks.notified.items);
@@ -163,49 +169,49 @@ machine_performs c command s t talks before after looks tags set other went same
       room = went.room;
     }
 
-machine_refused : (c : ℕ) (command : Command) (s : MachineState) (talks : Talks) (size looks : ℕ) (tags : TagMask) (failure : Failure) →
-    talk_of c talks.messages command ≡ None →
-    IsKeptRefusalOf s.saved.profile (weighed looks (looks_of command s) (meaning tags command s)) size failure →
-    IsRefusalBy (done_by c (spent_of size looks tags talks.messages) command s) failure
-machine_refused c command s talks size looks tags (failures.Refused refusal) other h =
-    machine_is c (spent_of size looks tags talks.messages) command s (Err refusal) other (ap (kept s) h)
-machine_refused c command s talks size looks tags failures.NoMemory other h = tt
+machine_refused : (c : Asker) (command : Command) (s : MachineState) (talks : Talks) (size looks : ℕ) (view : View) (failure : Failure) →
+    own_of c (spent_of size looks view talks.messages) command s ≡ None →
+    IsKeptRefusalOf s.saved.profile (weighed looks (looks_of command s) (meaning view.tags command s)) size failure →
+    IsRefusalBy (done_by c (spent_of size looks view talks.messages) command s) failure
+machine_refused c command s talks size looks view (failures.Refused refusal) other h =
+    machine_is c (spent_of size looks view talks.messages) command s (Err refusal) other (ap (kept s) h)
+machine_refused c command s talks size looks view failures.NoMemory other h = tt
 
-pub machine_fails : (c : ℕ) (command : Command) (s t : MachineState) (talks : Talks) (before after : Work) (looks : ℕ) (tags : TagMask)
-    (failure : Failure) → talk_of c talks.messages command ≡ None →
-    FailedKept (weighed looks (looks_of command s) (meaning tags command s)) s t before after failure →
-    IsNotPerformed (done_by c (spent_of before.size looks tags talks.messages) command s) s t talks talks before after failure
-machine_fails c command s t talks before after looks tags failure other failed = record {
+pub machine_fails : (c : Asker) (command : Command) (s t : MachineState) (talks : Talks) (before after : Work) (looks : ℕ) (view : View)
+    (failure : Failure) → own_of c (spent_of before.size looks view talks.messages) command s ≡ None →
+    FailedKept (weighed looks (looks_of command s) (meaning view.tags command s)) s t before after failure →
+    IsNotPerformed (done_by c (spent_of before.size looks view talks.messages) command s) s t talks talks before after failure
+machine_fails c command s t talks before after looks view failure other failed = record {
   stands = failed.state;
   same = record { messages = refl; notified = refl };
   nothing = failed.nothing;
-  refusal = machine_refused c command s talks before.size looks tags failure other failed.refusal;
+  refusal = machine_refused c command s talks before.size looks view failure other failed.refusal;
 }
 
-pub machine_runs : (c : ℕ) (command : Command) (s t : MachineState) (talks : Talks) (before after : Work) (looks : ℕ) (tags : TagMask)
-    (r : Result Subsystems Failure) → talk_of c talks.messages command ≡ None →
-    PerformsKept (weighed looks (looks_of command s) (meaning tags command s)) s t before after r →
+pub machine_runs : (c : Asker) (command : Command) (s t : MachineState) (talks : Talks) (before after : Work) (looks : ℕ) (view : View)
+    (r : Result Subsystems Failure) → own_of c (spent_of before.size looks view talks.messages) command s ≡ None →
+    PerformsKept (weighed looks (looks_of command s) (meaning view.tags command s)) s t before after r →
     IfOk r (λ set. set ≡ changed s t) →
-    RunsCommand (done_by c (spent_of before.size looks tags talks.messages) command s) s t talks talks before after r
-machine_runs c command s t talks before after looks tags (Ok set) other went same =
-    machine_performs c command s t talks before after looks tags set other went same
-machine_runs c command s t talks before after looks tags (Err failure) other failed same =
-    machine_fails c command s t talks before after looks tags failure other failed
+    RunsCommand (done_by c (spent_of before.size looks view talks.messages) command s) s t talks talks before after r
+machine_runs c command s t talks before after looks view (Ok set) other went same =
+    machine_performs c command s t talks before after looks view set other went same
+machine_runs c command s t talks before after looks view (Err failure) other failed same =
+    machine_fails c command s t talks before after looks view failure other failed
 
 -- so does one of messages
-talk_refused : (c : ℕ) (command : MessagesCommand) (s : MachineState) (talks : Talks) (size looks : ℕ) (tags : TagMask) (failure : Failure) →
-    IsTalkRefusal (talked c talks.messages command) failure →
-    IsRefusalBy (done_by c (spent_of size looks tags talks.messages) (commands.Messages command) s) failure
-unfolding done_by talk_of
-talk_refused c command s talks size looks tags (failures.Refused refusal) h = ap (talk_does s) h
-talk_refused c command s talks size looks tags failures.NoMemory h = tt
+talk_refused : (c : Asker) (command : MessagesCommand) (s : MachineState) (talks : Talks) (size looks : ℕ) (view : View) (failure : Failure) →
+    IsTalkRefusal (talked c.client talks.messages command) failure →
+    IsRefusalBy (done_by c (spent_of size looks view talks.messages) (commands.Messages command) s) failure
+unfolding done_by own_of talk_of
+talk_refused c command s talks size looks view (failures.Refused refusal) h = ap (talk_does s) h
+talk_refused c command s talks size looks view failures.NoMemory h = tt
 
-pub talk_runs : (c : ℕ) (command : MessagesCommand) (s : MachineState) (talks after_it : Talks) (before after : Work) (looks : ℕ)
-    (tags : TagMask) (r : Result Subsystems Failure) →
-    RunsTalk (talked c talks.messages command) talks after_it before after r →
-    RunsCommand (done_by c (spent_of before.size looks tags talks.messages) (commands.Messages command) s) s s talks after_it before after r
-unfolding done_by talk_of
-talk_runs c command s talks after_it before after looks tags (Ok set) h =
+pub talk_runs : (c : Asker) (command : MessagesCommand) (s : MachineState) (talks after_it : Talks) (before after : Work) (looks : ℕ)
+    (view : View) (r : Result Subsystems Failure) →
+    RunsTalk (talked c.client talks.messages command) talks after_it before after r →
+    RunsCommand (done_by c (spent_of before.size looks view talks.messages) (commands.Messages command) s) s s talks after_it before after r
+unfolding done_by own_of talk_of
+talk_runs c command s talks after_it before after looks view (Ok set) h =
     let x : Talk = h.talk in
     let a = h.text in
     record {
@@ -220,12 +226,50 @@ talk_runs c command s talks after_it before after looks tags (Ok set) h =
       changed = h.changed;
       room = h.room;
     }
-talk_runs c command s talks after_it before after looks tags (Err failure) h = record {
+talk_runs c command s talks after_it before after looks view (Err failure) h = record {
   stands = refl;
   same = h.same;
   nothing = h.nothing;
-  refusal = talk_refused c command s talks before.size looks tags failure h.refusal;
+  refusal = talk_refused c command s talks before.size looks view failure h.refusal;
 }
+
+-- and one of pictures
+show_refused : (a : Asker) (command : PicturesCommand) (s : MachineState) (talks : Talks) (size looks : ℕ) (view : View) (failure : Failure) →
+    IsShownRefusal (shown view.limit a.told s.saved.songs command) failure →
+    IsRefusalBy (done_by a (spent_of size looks view talks.messages) (commands.Pictures command) s) failure
+unfolding done_by own_of
+show_refused a command s talks size looks view (failures.Refused refusal) h = ap (λ r. talk_does s (shows talks.messages r)) h
+show_refused a command s talks size looks view failures.NoMemory h = tt
+
+pub show_fails : (a : Asker) (command : PicturesCommand) (s : MachineState) (talks : Talks) (before after : Work) (looks : ℕ) (view : View)
+    (failure : Failure) → AddsNothing before after → IsShownRefusal (shown view.limit a.told s.saved.songs command) failure →
+    IsNotPerformed (done_by a (spent_of before.size looks view talks.messages) (commands.Pictures command) s) s s talks talks before after
+    failure
+show_fails a command s talks before after looks view failure nothing h = record {
+  stands = refl;
+  same = record { messages = refl; notified = refl };
+  nothing = nothing;
+  refusal = show_refused a command s talks before.size looks view failure h;
+}
+
+pub show_goes : (a : Asker) (command : PicturesCommand) (s : MachineState) (talks : Talks) (before after : Work) (looks : ℕ) (view : View)
+    (set : Subsystems) → WentShowing (shown view.limit a.told s.saved.songs command) before after → set ≡ none →
+    IsPerformed (done_by a (spent_of before.size looks view talks.messages) (commands.Pictures command) s) s s talks talks before after set
+unfolding done_by own_of
+show_goes a command s talks before after looks view set h same =
+    let added = h.adds in
+    record {
+      what = talk_done s (record (silent talks.messages) { text = h.text });
+      is = ap (λ r. talk_does s (shows talks.messages r)) h.is;
+      stands = refl;
+      messages = refl;
+      notified = sym (append-nil talks.notified.items);
+      text = added.text;
+      ops = added.ops ∙ sym (append-nil before.ops.items);
+      size = omega (arith, added.size);
+      changed = same;
+      room = h.room;
+    }
 
 union-none : (a : Subsystems) → union none a ≡ a
 union-none a = set_ext _ _ (λ x.
@@ -251,7 +295,7 @@ preceded_twice t u a b os ps n m r = λ i. record {
   ending = r.ending;
   refused_at = r.refused_at;
   looks = r.looks;
-  tags = r.tags;
+  view = r.view;
   messages = r.messages;
   notified = sym (append_assoc n m r.notified) i;
 }
@@ -265,7 +309,7 @@ preceded_none r = λ i. record {
   ending = r.ending;
   refused_at = r.refused_at;
   looks = r.looks;
-  tags = r.tags;
+  view = r.view;
   messages = r.messages;
   notified = r.notified;
 }
@@ -276,8 +320,8 @@ NotBefore index refused = IfSome refused (λ place. index ≤ place)
 
 -- What was done so far: what is left of the request, done from here, makes it whole.
 pub record SoFar
-    (c : ℕ) (place : Place) (between : List ℕ) (lines rest : List (List ℕ)) (index : ℕ) (first m : MachineState) (talks talked : Talks)
-    (before now : Work) (looks : ℕ) (start tags : TagMask) (changes : Subsystems)
+    (c : Asker) (place : Place) (between : List ℕ) (lines rest : List (List ℕ)) (index : ℕ) (first m : MachineState) (talks talked : Talks)
+    (before now : Work) (looks : ℕ) (start view : View) (changes : Subsystems)
     : Type 0 where
   pub text : List ℕ
   pub made : List Op
@@ -289,10 +333,10 @@ pub record SoFar
   pub left : index + length rest ≡ length lines
   pub whole : (refused : Option ℕ) → NotBefore index refused →
       ran c place between refused 0 (spent_of before.size 0 start talks.messages) lines first
-      ≡ preceded text changes made told (ran c place between refused index (spent_of now.size looks tags talked.messages) rest m)
+      ≡ preceded text changes made told (ran c place between refused index (spent_of now.size looks view talked.messages) rest m)
 
-pub so_far_begins : (c : ℕ) (place : Place) (between : List ℕ) (lines : List (List ℕ)) (first : MachineState) (talks : Talks)
-    (before : Work) (start : TagMask) → HasRoom ack_room before →
+pub so_far_begins : (c : Asker) (place : Place) (between : List ℕ) (lines : List (List ℕ)) (first : MachineState) (talks : Talks)
+    (before : Work) (start : View) → HasRoom ack_room before →
     SoFar c place between lines lines 0 first first talks talks before before 0 start start none
 so_far_begins c place between lines first talks before start room = record {
   text = [];
@@ -316,7 +360,7 @@ later_before index None h = tt
 later_before index (Some place) h = omega (arith, h)
 
 -- the rest of a request behind its next command, which goes well
-next_goes : (c : ℕ) (place : Place) (between line : List ℕ) (rest : List (List ℕ)) (index : ℕ) (spent : Spent) (refused : Option ℕ)
+next_goes : (c : Asker) (place : Place) (between line : List ℕ) (rest : List (List ℕ)) (index : ℕ) (spent : Spent) (refused : Option ℕ)
     (s : MachineState) (x : Done) → is_refused_at refused index ≡ false → attempted c place spent line s ≡ Goes x →
     ran c place between refused index spent (line ∷ rest) s
     ≡ preceded (x.text ++ between) x.changed x.ops x.notified
@@ -329,17 +373,17 @@ next_goes c place between line rest index spent refused s x here did =
     ∙ ap (follow between index (spent_behind place line s spent) s (λ n u. ran c place between refused (suc index) n rest u)) did
 
 -- one command went well
-pub so_far_goes : (c : ℕ) (place : Place) (between : List ℕ) (lines rest : List (List ℕ)) (line : List ℕ) (index : ℕ)
-    (first s t : MachineState) (talks talked done : Talks) (before now after : Work) (looks more : ℕ) (start tags behind : TagMask)
+pub so_far_goes : (c : Asker) (place : Place) (between : List ℕ) (lines rest : List (List ℕ)) (line : List ℕ) (index : ℕ)
+    (first s t : MachineState) (talks talked done : Talks) (before now after : Work) (looks more : ℕ) (start view behind : View)
     (changes set : Subsystems) →
-    SoFar c place between lines (line ∷ rest) index first s talks talked before now looks start tags changes →
-    WentOn between (attempted c place (spent_of now.size looks tags talked.messages) line s) s t talked done now after set →
-    more ≡ looked looks (looks_of_line place line s) → behind ≡ tags_of_line place line s tags →
+    SoFar c place between lines (line ∷ rest) index first s talks talked before now looks start view changes →
+    WentOn between (attempted c place (spent_of now.size looks view talked.messages) line s) s t talked done now after set →
+    more ≡ looked looks (looks_of_line place line s) → behind ≡ view_of_line place line s view →
     SoFar c place between lines rest (suc index) first t talks done before after more start behind (union changes set)
-so_far_goes c place between lines rest line index first s t talks talked done before now after looks more start tags behind changes set far
+so_far_goes c place between lines rest line index first s t talks talked done before now after looks more start view behind changes set far
     went counted seen =
     let x : Done = went.what in
-    let spent = spent_of now.size looks tags talked.messages in
+    let spent = spent_of now.size looks view talked.messages in
     record {
       text = far.text ++ (x.text ++ between);
       made = far.made ++ x.ops;
@@ -364,25 +408,25 @@ so_far_goes c place between lines rest line index first s t talks talked done be
 
 -- what the answer to a stop makes of the rest of a request
 pub record StopsIt
-    (c : ℕ) (place : Place) (between line : List ℕ) (rest : List (List ℕ)) (index : ℕ) (spent : Spent) (s : MachineState) (refused : Option ℕ)
-    (ending : Ending) (looks : ℕ) (tags : TagMask) (work done : Work) : Type 0 where
+    (c : Asker) (place : Place) (between line : List ℕ) (rest : List (List ℕ)) (index : ℕ) (spent : Spent) (s : MachineState) (refused : Option ℕ)
+    (ending : Ending) (looks : ℕ) (view : View) (work done : Work) : Type 0 where
   pub text : List ℕ
   pub same : ran c place between refused index spent (line ∷ rest) s
-      ≡ record (ends s (spent_of 0 looks tags spent.messages) text ending) { refused_at = refused }
+      ≡ record (ends s (spent_of 0 looks view spent.messages) text ending) { refused_at = refused }
   pub adds : AddsText text work done
   pub later : NotBefore index refused
   pub within : IfSome refused (λ at. at ≡ index)
 
-pub stops_it : (c : ℕ) (place : Place) (between line : List ℕ) (rest : List (List ℕ)) (index : ℕ) (spent : Spent) (s : MachineState)
-    (stop : Stop) (refused : Option ℕ) (ending : Ending) (looks : ℕ) (tags : TagMask) (work done : Work)
+pub stops_it : (c : Asker) (place : Place) (between line : List ℕ) (rest : List (List ℕ)) (index : ℕ) (spent : Spent) (s : MachineState)
+    (stop : Stop) (refused : Option ℕ) (ending : Ending) (looks : ℕ) (view : View) (work done : Work)
     → IsStop (attempted c place spent line s) stop
     → CountsLooks (looked spent.looks (looks_of_line place line s)) looks (Err stop)
-    → SeesTags (tags_of_line place line s spent.tags) tags (Err stop)
+    → HasView (view_of_line place line s spent.view) view (Err stop)
     → AnswersStop s.saved.profile stop index line refused ending work done
     → StopsIt c place between line rest index spent s refused ending (looks_at_end refused looks)
-    (tags_at_end refused spent.tags tags) work done
+    (view_at_end refused spent.view view) work done
 unfolding ran
-stops_it c place between line rest index spent s (stops.Ends it) None ending looks tags work done did counted seen answer = record {
+stops_it c place between line rest index spent s (stops.Ends it) None ending looks view work done did counted seen answer = record {
   text = [];
   same = ap (follow between index (spent_behind place line s spent) s (λ n u. ran c place between None (suc index) n rest u)) did
       ∙ (λ i. ends s (spent_of 0 (sym counted i) (sym seen i) spent.messages) [] (sym answer.0 i));
@@ -390,7 +434,7 @@ stops_it c place between line rest index spent s (stops.Ends it) None ending loo
   later = tt;
   within = tt;
 }
-stops_it c place between line rest index spent s (stops.Refused refusal) None ending looks tags work done did counted seen answer = record {
+stops_it c place between line rest index spent s (stops.Refused refusal) None ending looks view work done did counted seen answer = record {
   text = ack index refusal;
   same = ap (follow between index (spent_behind place line s spent) s (λ n u. ran c place between None (suc index) n rest u)) did
       ∙ (λ i. ends s (spent_of 0 (sym counted i) (sym seen i) spent.messages) (ack index refusal) (sym answer.0 i));
@@ -398,8 +442,8 @@ stops_it c place between line rest index spent s (stops.Refused refusal) None en
   later = tt;
   within = tt;
 }
-stops_it c place between line rest index spent s stops.NoMemory None ending looks tags work done did counted seen answer = absurd answer
-stops_it c place between line rest index spent s stop (Some at) ending looks tags work done did counted seen answer =
+stops_it c place between line rest index spent s stops.NoMemory None ending looks view work done did counted seen answer = absurd answer
+stops_it c place between line rest index spent s stop (Some at) ending looks view work done did counted seen answer =
     let wants = answer.1 in
     record {
       text = ack index (want_of_memory (name_of_line s.saved.profile line));
@@ -407,7 +451,7 @@ stops_it c place between line rest index spent s stop (Some at) ending looks tag
           (follow between index (spent_behind place line s spent) s (λ n u. ran c place between (Some at) (suc index) n rest u)
           (attempted c place spent line s)))
           (eq-eqb at index answer.0)
-          ∙ (λ i. record (ends s (spent_of 0 max_looks spent.tags spent.messages) (ack index (want_of_memory (name_of_line s.saved.profile line)))
+          ∙ (λ i. record (ends s (spent_of 0 max_looks spent.view spent.messages) (ack index (want_of_memory (name_of_line s.saved.profile line)))
           (sym wants.0 i))
           { refused_at = Some (sym answer.0 i) });
       adds = wants.1;
@@ -415,20 +459,20 @@ stops_it c place between line rest index spent s stop (Some at) ending looks tag
       within = answer.0;
     }
 
-abbrev end_of : Ending → Subsystems → Option ℕ → ℕ → TagMask → RequestEnd
-end_of ending changes refused looks tags =
-    record { ending = ending; changed = changes; refused_at = refused; looks = looks; tags = tags }
+abbrev end_of : Ending → Subsystems → Option ℕ → ℕ → View → RequestEnd
+end_of ending changes refused looks view =
+    record { ending = ending; changed = changes; refused_at = refused; looks = looks; view = view }
 
 -- the request has ended
-ran_ends : (c : ℕ) (place : Place) (between : List ℕ) (lines rest : List (List ℕ)) (index : ℕ) (first s : MachineState)
-    (talks talked : Talks) (before now after : Work) (looks all : ℕ) (start tags seen : TagMask) (changes : Subsystems)
+ran_ends : (c : Asker) (place : Place) (between : List ℕ) (lines rest : List (List ℕ)) (index : ℕ) (first s : MachineState)
+    (talks talked : Talks) (before now after : Work) (looks all : ℕ) (start view seen : View) (changes : Subsystems)
     (refused : Option ℕ) (text : List ℕ) (ending : Ending) →
-    SoFar c place between lines rest index first s talks talked before now looks start tags changes → NotBefore index refused →
-    ran c place between refused index (spent_of now.size looks tags talked.messages) rest s
+    SoFar c place between lines rest index first s talks talked before now looks start view changes → NotBefore index refused →
+    ran c place between refused index (spent_of now.size looks view talked.messages) rest s
     ≡ record (ends s (spent_of 0 all seen talked.messages) text ending) { refused_at = refused } → AddsText text now after →
     IfSome refused (λ at. at < length lines) →
     RunsLines c place between start lines first s talks talked before after (end_of ending changes refused all seen)
-ran_ends c place between lines rest index first s talks talked before now after looks all start tags seen changes refused text ending far
+ran_ends c place between lines rest index first s talks talked before now after looks all start view seen changes refused text ending far
     later ended adds within =
     let whole : ran c place between refused 0 (spent_of before.size 0 start talks.messages) lines first
     ≡ preceded far.text changes far.made far.told
@@ -444,7 +488,7 @@ ran_ends c place between lines rest index first s talks talked before now after 
       ending = sym (ap (λ r. r.ending) whole);
       refused_at = sym (ap (λ r. r.refused_at) whole);
       looks = sym (ap (λ r. r.looks) whole);
-      sees = sym (ap (λ r. r.tags) whole);
+      sees = sym (ap (λ r. r.view) whole);
       messages = sym (ap (λ r. r.messages) whole);
       notified = far.notified
           ∙ sym (ap (λ r. talks.notified.items ++ r.notified) whole ∙ ap (λ x. talks.notified.items ++ x) (append-nil far.told));
@@ -452,11 +496,11 @@ ran_ends c place between lines rest index first s talks talked before now after 
     }
 
 -- memory that was taken changes nothing of what was sent
-same_talks : (c : ℕ) (place : Place) (between : List ℕ) (tags : TagMask) (lines : List (List ℕ)) (first s : MachineState)
+same_talks : (c : Asker) (place : Place) (between : List ℕ) (view : View) (lines : List (List ℕ)) (first s : MachineState)
     (talks talked last : Talks) (before after : Work) (end : RequestEnd) → IsSame talked last →
-    RunsLines c place between tags lines first s talks talked before after end →
-    RunsLines c place between tags lines first s talks last before after end
-same_talks c place between tags lines first s talks talked last before after end same runs = record {
+    RunsLines c place between view lines first s talks talked before after end →
+    RunsLines c place between view lines first s talks last before after end
+same_talks c place between view lines first s talks talked last before after end same runs = record {
   stands = runs.stands;
   text = runs.text;
   ops = runs.ops;
@@ -475,20 +519,20 @@ at_within index count None below h = tt
 at_within index count (Some at) below h = omega (arith, below, h)
 
 -- the next command stopped it
-pub ran_stops : (c : ℕ) (place : Place) (between : List ℕ) (lines whole rest : List (List ℕ)) (bytes : List ℕ) (index : ℕ)
+pub ran_stops : (c : Asker) (place : Place) (between : List ℕ) (lines whole rest : List (List ℕ)) (bytes : List ℕ) (index : ℕ)
     (first s t : MachineState) (talks talked last : Talks) (before now mid after : Work) (looks more all : ℕ)
-    (start tags behind seen : TagMask) (changes : Subsystems) (stop : Stop) (refused : Option ℕ) (ending : Ending) → whole ≡ bytes ∷ rest
-    → SoFar c place between lines whole index first s talks talked before now looks start tags changes →
-    Stopped (attempted c place (spent_of now.size looks tags talked.messages) bytes s) s t talked last now mid stop →
+    (start view behind seen : View) (changes : Subsystems) (stop : Stop) (refused : Option ℕ) (ending : Ending) → whole ≡ bytes ∷ rest
+    → SoFar c place between lines whole index first s talks talked before now looks start view changes →
+    Stopped (attempted c place (spent_of now.size looks view talked.messages) bytes s) s t talked last now mid stop →
     CountsLooks (looked looks (looks_of_line place bytes s)) more (Err stop) → all ≡ looks_at_end refused more →
-    SeesTags (tags_of_line place bytes s tags) behind (Err stop) → seen ≡ tags_at_end refused tags behind →
+    HasView (view_of_line place bytes s view) behind (Err stop) → seen ≡ view_at_end refused view behind →
     AnswersStop t.saved.profile stop index bytes refused ending mid after →
     RunsLines c place between start lines first t talks last before after (end_of ending changes refused all seen)
-ran_stops c place between lines whole rest bytes index first s t talks talked last before now mid after looks more all start tags behind seen
+ran_stops c place between lines whole rest bytes index first s t talks talked last before now mid after looks more all start view behind seen
     changes stop refused ending parts whole_far stopped counted is sees at_end answer =
-    let far : SoFar c place between lines (bytes ∷ rest) index first s talks talked before now looks start tags changes =
-    subst (λ r. SoFar c place between lines r index first s talks talked before now looks start tags changes) parts whole_far in
-    let it = stops_it c place between bytes rest index (spent_of now.size looks tags talked.messages) s stop refused ending more behind mid
+    let far : SoFar c place between lines (bytes ∷ rest) index first s talks talked before now looks start view changes =
+    subst (λ r. SoFar c place between lines r index first s talks talked before now looks start view changes) parts whole_far in
+    let it = stops_it c place between bytes rest index (spent_of now.size looks view talked.messages) s stop refused ending more behind mid
     after stopped.why counted sees
     (subst (λ (u : MachineState). AnswersStop u.saved.profile stop index bytes refused ending mid after) stopped.stands answer) in
     let nothing = stopped.nothing in
@@ -496,7 +540,7 @@ ran_stops c place between lines whole rest bytes index first s t talks talked la
     subst (λ u. RunsLines c place between start lines first u talks last before after (end_of ending changes refused all seen))
     (sym stopped.stands)
     (same_talks c place between start lines first s talks talked last before after (end_of ending changes refused all seen) stopped.same
-    (ran_ends c place between lines (bytes ∷ rest) index first s talks talked before now after looks all start tags seen changes refused
+    (ran_ends c place between lines (bytes ∷ rest) index first s talks talked before now after looks all start view seen changes refused
     it.text ending far it.later
     (it.same ∙ (λ i. record (ends s (spent_of 0 (sym is i) (sym at_end i) talked.messages) it.text ending) { refused_at = refused }))
     (record {
@@ -506,36 +550,36 @@ ran_stops c place between lines whole rest bytes index first s t talks talked la
     })
     (at_within index (length lines) refused (omega (arith, far.left)) it.within)))
 
-pub ran_goes : (c : ℕ) (place : Place) (between : List ℕ) (lines whole rest : List (List ℕ)) (bytes : List ℕ) (index : ℕ)
-    (first s t : MachineState) (talks talked done : Talks) (before now after : Work) (looks more : ℕ) (start tags behind : TagMask)
+pub ran_goes : (c : Asker) (place : Place) (between : List ℕ) (lines whole rest : List (List ℕ)) (bytes : List ℕ) (index : ℕ)
+    (first s t : MachineState) (talks talked done : Talks) (before now after : Work) (looks more : ℕ) (start view behind : View)
     (changes set : Subsystems) → whole ≡ bytes ∷ rest →
-    SoFar c place between lines whole index first s talks talked before now looks start tags changes →
-    WentOn between (attempted c place (spent_of now.size looks tags talked.messages) bytes s) s t talked done now after set →
-    more ≡ looked looks (looks_of_line place bytes s) → behind ≡ tags_of_line place bytes s tags →
+    SoFar c place between lines whole index first s talks talked before now looks start view changes →
+    WentOn between (attempted c place (spent_of now.size looks view talked.messages) bytes s) s t talked done now after set →
+    more ≡ looked looks (looks_of_line place bytes s) → behind ≡ view_of_line place bytes s view →
     SoFar c place between lines rest (index + 1) first t talks done before after more start behind (union changes set)
-ran_goes c place between lines whole rest bytes index first s t talks talked done before now after looks more start tags behind changes set
+ran_goes c place between lines whole rest bytes index first s t talks talked done before now after looks more start view behind changes set
     parts far h counted seen =
     subst (λ n. SoFar c place between lines rest n first t talks done before after more start behind (union changes set)) (omega arith)
-    (so_far_goes c place between lines rest bytes index first s t talks talked done before now after looks more start tags behind changes set
-    (subst (λ r. SoFar c place between lines r index first s talks talked before now looks start tags changes) parts far) h counted seen)
+    (so_far_goes c place between lines rest bytes index first s t talks talked done before now after looks more start view behind changes set
+    (subst (λ r. SoFar c place between lines r index first s talks talked before now looks start view changes) parts far) h counted seen)
 
-next_none : (c : ℕ) (place : Place) (between : List ℕ) (index : ℕ) (spent : Spent) (s : MachineState) →
+next_none : (c : Asker) (place : Place) (between : List ℕ) (index : ℕ) (spent : Spent) (s : MachineState) →
     ran c place between None index spent [] s ≡ ends s spent ok Answered
 unfolding ran
 next_none c place between index spent s = refl
 
-pub ran_all : (c : ℕ) (place : Place) (between : List ℕ) (lines rest : List (List ℕ)) (index : ℕ) (first s : MachineState)
-    (talks talked : Talks) (before now after : Work) (looks all : ℕ) (start tags : TagMask) (changes : Subsystems) → rest ≡ [] →
-    SoFar c place between lines rest index first s talks talked before now looks start tags changes → all ≡ looks → AddsText ok now after →
-    RunsLines c place between start lines first s talks talked before after (end_of Answered changes None all tags)
-ran_all c place between lines [] index first s talks talked before now after looks all start tags changes empty far is h =
-    ran_ends c place between lines [] index first s talks talked before now after looks all start tags tags changes None ok Answered far tt
-    (next_none c place between index (spent_of now.size looks tags talked.messages) s
-    ∙ (λ i. ends s (spent_of 0 (sym is i) tags talked.messages) ok Answered)) h tt
-ran_all c place between lines (r ∷ rest) index first s talks talked before now after looks all start tags changes empty far is h = cc
+pub ran_all : (c : Asker) (place : Place) (between : List ℕ) (lines rest : List (List ℕ)) (index : ℕ) (first s : MachineState)
+    (talks talked : Talks) (before now after : Work) (looks all : ℕ) (start view : View) (changes : Subsystems) → rest ≡ [] →
+    SoFar c place between lines rest index first s talks talked before now looks start view changes → all ≡ looks → AddsText ok now after →
+    RunsLines c place between start lines first s talks talked before after (end_of Answered changes None all view)
+ran_all c place between lines [] index first s talks talked before now after looks all start view changes empty far is h =
+    ran_ends c place between lines [] index first s talks talked before now after looks all start view view changes None ok Answered far tt
+    (next_none c place between index (spent_of now.size looks view talked.messages) s
+    ∙ (λ i. ends s (spent_of 0 (sym is i) view talked.messages) ok Answered)) h tt
+ran_all c place between lines (r ∷ rest) index first s talks talked before now after looks all start view changes empty far is h = cc
 
 -- a command that went well, and what stands behind it
-pub went_on : (c : ℕ) (spent : Spent) (named : NamedCommand) (separator : List ℕ) (s t : MachineState) (talks talked : Talks)
+pub went_on : (c : Asker) (spent : Spent) (named : NamedCommand) (separator : List ℕ) (s t : MachineState) (talks talked : Talks)
     (before mid after : Work) (set : Subsystems) →
     IsPerformed (done_by c spent named.command s) s t talks talked before mid set → ending_of named.command ≡ None →
     AddsText separator mid after → HasRoom ack_room after →
@@ -556,13 +600,13 @@ went_on c spent named separator s t talks talked before mid after set went is ad
     }
 
 -- a line of which no words, or no command, were read
-pub words_stop : (c : ℕ) (place : Place) (spent : Spent) (line : List ℕ) (m : MachineState) (error : ReadError) (stop : Stop) →
+pub words_stop : (c : Asker) (place : Place) (spent : Spent) (line : List ℕ) (m : MachineState) (error : ReadError) (stop : Stop) →
     GivesWords (Err error) (line_words line) → stop ≡ stop_of_reading error → IsStop (attempted c place spent line m) stop
 words_stop c place spent line m (errors.Refused refusal) stop read is =
     subst (IsStop (attempted c place spent line m)) (sym is) (words_refused c place spent line m refusal read)
 words_stop c place spent line m errors.NoMemory stop read is = subst (IsStop (attempted c place spent line m)) (sym is) tt
 
-pub command_stop : (c : ℕ) (place : Place) (spent : Spent) (line : List ℕ) (words slice : List (List ℕ)) (m : MachineState) (error : ReadError)
+pub command_stop : (c : Asker) (place : Place) (spent : Spent) (line : List ℕ) (words slice : List (List ℕ)) (m : MachineState) (error : ReadError)
     (stop : Stop) → line_words line ≡ Ok words → slice ≡ words → Gives {A = NamedCommand} (Err error)
     (command_of m.saved.profile place slice) →
     stop ≡ stop_of_reading error → IsStop (attempted c place spent line m) stop
@@ -573,16 +617,16 @@ command_stop c place spent line words slice m errors.NoMemory stop parted same r
     subst (IsStop (attempted c place spent line m)) (sym is) tt
 
 -- a command that was read runs as its line does, and looks at what its line looks at
-pub line_runs : (c : ℕ) (place : Place) (between line : List ℕ) (words slice : List (List ℕ)) (named : NamedCommand) (s t : MachineState)
-    (talks talked : Talks) (before mid after : Work) (looks : ℕ) (tags : TagMask) (r : Result Subsystems Stop) →
+pub line_runs : (c : Asker) (place : Place) (between line : List ℕ) (words slice : List (List ℕ)) (named : NamedCommand) (s t : MachineState)
+    (talks talked : Talks) (before mid after : Work) (looks : ℕ) (view : View) (r : Result Subsystems Stop) →
     line_words line ≡ Ok words → slice ≡ words → command_of s.saved.profile place slice ≡ Ok named → AddsNothing before mid →
-    RunsLine between (performed c (spent_of mid.size looks tags talks.messages) named s) s t talks talked mid after r →
-    RunsLine between (attempted c place (spent_of before.size looks tags talks.messages) line s) s t talks talked before after r
-line_runs c place between line words slice named s t talks talked before mid after looks tags r parted same read nothing h =
-    runs_from between (attempted c place (spent_of before.size looks tags talks.messages) line s) s t talks talked before mid after r nothing
+    RunsLine between (performed c (spent_of mid.size looks view talks.messages) named s) s t talks talked mid after r →
+    RunsLine between (attempted c place (spent_of before.size looks view talks.messages) line s) s t talks talked before after r
+line_runs c place between line words slice named s t talks talked before mid after looks view r parted same read nothing h =
+    runs_from between (attempted c place (spent_of before.size looks view talks.messages) line s) s t talks talked before mid after r nothing
     (subst (λ did. RunsLine between did s t talks talked mid after r)
-    (ap (λ n. performed c (spent_of n looks tags talks.messages) named s) nothing.size
-    ∙ read_performed c place (spent_of before.size looks tags talks.messages) line slice s named (parted ∙ ap Ok (sym same)) read) h)
+    (ap (λ n. performed c (spent_of n looks view talks.messages) named s) nothing.size
+    ∙ read_performed c place (spent_of before.size looks view talks.messages) line slice s named (parted ∙ ap Ok (sym same)) read) h)
 
 pub line_looks : (place : Place) (line : List ℕ) (words slice : List (List ℕ)) (named : NamedCommand) (m : MachineState) →
     line_words line ≡ Ok words → slice ≡ words → command_of m.saved.profile place slice ≡ Ok named →
@@ -598,19 +642,19 @@ looks_counted (Err (stops.Ends ending)) looks more same h = h ∙ ap (looked loo
 looks_counted (Err (stops.Refused refusal)) looks more same h = h ∙ ap (looked looks) same
 looks_counted (Err stops.NoMemory) looks more same h = tt
 
--- the same of the tags that its client sees behind it
-pub line_tags : (place : Place) (line : List ℕ) (words slice : List (List ℕ)) (named : NamedCommand) (m : MachineState) (tags : TagMask) →
+-- the same of the view that its client sees behind it
+pub line_view : (place : Place) (line : List ℕ) (words slice : List (List ℕ)) (named : NamedCommand) (m : MachineState) (view : View) →
     line_words line ≡ Ok words → slice ≡ words → command_of m.saved.profile place slice ≡ Ok named →
-    tags_behind named.command tags ≡ tags_of_line place line m tags
-unfolding tags_of_line line_reading
-line_tags place line words slice named m tags parted same read =
-    sym (ap (λ w. tags_read (command_in m.saved.profile place w) tags) (parted ∙ ap Ok (sym same)) ∙ ap (λ r. tags_read r tags) read)
+    view_behind named.command view ≡ view_of_line place line m view
+unfolding view_of_line line_reading
+line_view place line words slice named m view parted same read =
+    sym (ap (λ w. view_read (command_in m.saved.profile place w) view) (parted ∙ ap Ok (sym same)) ∙ ap (λ r. view_read r view) read)
 
-pub tags_seen_so : (r : Result Subsystems Stop) (all tags : TagMask) → tags ≡ all → SeesTags all tags r
-tags_seen_so (Ok set) all tags is = is
-tags_seen_so (Err (stops.Ends ending)) all tags is = is
-tags_seen_so (Err (stops.Refused refusal)) all tags is = is
-tags_seen_so (Err stops.NoMemory) all tags is = tt
+pub view_of_so : (r : Result Subsystems Stop) (all view : View) → view ≡ all → HasView all view r
+view_of_so (Ok set) all view is = is
+view_of_so (Err (stops.Ends ending)) all view is = is
+view_of_so (Err (stops.Refused refusal)) all view is = is
+view_of_so (Err stops.NoMemory) all view is = tt
 
 -- What ends a request, and a line of which no command was read, looks at nothing.
 cond_same : (b : Bool) (n m : ℕ) → m ≡ n → m ≡ cond b n m
@@ -667,29 +711,29 @@ stop_counts place line m refusal stop looks read is =
     subst (λ (it : Stop). CountsLooks (looked looks (looks_of_line place line m)) looks (Err it)) (sym is)
     (unread_counts place line m refusal looks read)
 
-unread_tags : (place : Place) (line : List ℕ) (m : MachineState) (refusal : Refusal) (tags : TagMask) →
-    line_reading m.saved.profile place line ≡ Err refusal → tags ≡ tags_of_line place line m tags
-unfolding tags_of_line
-unread_tags place line m refusal tags read = sym (ap (λ r. tags_read r tags) read)
+unread_view : (place : Place) (line : List ℕ) (m : MachineState) (refusal : Refusal) (view : View) →
+    line_reading m.saved.profile place line ≡ Err refusal → view ≡ view_of_line place line m view
+unfolding view_of_line
+unread_view place line m refusal view read = sym (ap (λ r. view_read r view) read)
 
--- a line of which no command was read leaves the tags that its client sees
-pub words_tags : (place : Place) (line : List ℕ) (m : MachineState) (error : ReadError) (stop : Stop) (tags : TagMask) →
-    GivesWords (Err error) (line_words line) → stop ≡ stop_of_reading error → SeesTags (tags_of_line place line m tags) tags (Err stop)
-words_tags place line m (errors.Refused refusal) stop tags read is =
-    tags_seen_so (Err stop) (tags_of_line place line m tags) tags
-    (unread_tags place line m refusal tags (words_unread m.saved.profile place line refusal read))
-words_tags place line m errors.NoMemory stop tags read is =
-    subst (λ (it : Stop). SeesTags (tags_of_line place line m tags) tags (Err it)) (sym is) tt
+-- a line of which no command was read leaves the view that its client sees
+pub words_view : (place : Place) (line : List ℕ) (m : MachineState) (error : ReadError) (stop : Stop) (view : View) →
+    GivesWords (Err error) (line_words line) → stop ≡ stop_of_reading error → HasView (view_of_line place line m view) view (Err stop)
+words_view place line m (errors.Refused refusal) stop view read is =
+    view_of_so (Err stop) (view_of_line place line m view) view
+    (unread_view place line m refusal view (words_unread m.saved.profile place line refusal read))
+words_view place line m errors.NoMemory stop view read is =
+    subst (λ (it : Stop). HasView (view_of_line place line m view) view (Err it)) (sym is) tt
 
-pub command_tags : (place : Place) (line : List ℕ) (words slice : List (List ℕ)) (m : MachineState) (error : ReadError) (stop : Stop)
-    (tags : TagMask) → line_words line ≡ Ok words → slice ≡ words
+pub command_view : (place : Place) (line : List ℕ) (words slice : List (List ℕ)) (m : MachineState) (error : ReadError) (stop : Stop)
+    (view : View) → line_words line ≡ Ok words → slice ≡ words
     → Gives {A = NamedCommand} (Err error) (command_of m.saved.profile place slice) → stop ≡ stop_of_reading error
-    → SeesTags (tags_of_line place line m tags) tags (Err stop)
-command_tags place line words slice m (errors.Refused refusal) stop tags parted same read is =
-    tags_seen_so (Err stop) (tags_of_line place line m tags) tags
-    (unread_tags place line m refusal tags (command_unread m.saved.profile place line slice refusal (parted ∙ ap Ok (sym same)) read))
-command_tags place line words slice m errors.NoMemory stop tags parted same read is =
-    subst (λ (it : Stop). SeesTags (tags_of_line place line m tags) tags (Err it)) (sym is) tt
+    → HasView (view_of_line place line m view) view (Err stop)
+command_view place line words slice m (errors.Refused refusal) stop view parted same read is =
+    view_of_so (Err stop) (view_of_line place line m view) view
+    (unread_view place line m refusal view (command_unread m.saved.profile place line slice refusal (parted ∙ ap Ok (sym same)) read))
+command_view place line words slice m errors.NoMemory stop view parted same read is =
+    subst (λ (it : Stop). HasView (view_of_line place line m view) view (Err it)) (sym is) tt
 
 pub words_count : (place : Place) (line : List ℕ) (m : MachineState) (error : ReadError) (stop : Stop) (looks : ℕ) →
     GivesWords (Err error) (line_words line) → stop ≡ stop_of_reading error →
@@ -710,28 +754,29 @@ command_counts place line words slice m errors.NoMemory stop looks parted same r
     subst (λ (it : Stop). CountsLooks (looked looks (looks_of_line place line m)) looks (Err it)) (sym is) tt
 
 -- What a request that ran makes of the clients doesn't hang on the machine and the messages before it.
-of_ran_same : (c : ℕ) (clients : List Watched) (masks : List ClientMask) (messages others : List Listener) (m n : MachineState) (r : Ran)
-    (ending : Ending) → of_ran c (record { machine = m; clients = clients; masks = masks; messages = messages }) r ending
-    ≡ of_ran c (record { machine = n; clients = clients; masks = masks; messages = others }) r ending
-of_ran_same c clients masks messages others m n r Answered = refl
-of_ran_same c clients masks messages others m n r Closed = refl
-of_ran_same c clients masks messages others m n r Killed = refl
-of_ran_same c clients masks messages others m n r (Waits mask) = refl
+of_ran_same : (c : ℕ) (clients : List Watched) (views : List ClientView) (messages others : List Listener)
+    (pictures : List ClientPicture) (m n : MachineState) (r : Ran) (ending : Ending)
+    → of_ran c (record { machine = m; clients = clients; views = views; messages = messages; pictures = pictures }) r ending
+    ≡ of_ran c (record { machine = n; clients = clients; views = views; messages = others; pictures = pictures }) r ending
+of_ran_same c clients views messages others pictures m n r Answered = refl
+of_ran_same c clients views messages others pictures m n r Closed = refl
+of_ran_same c clients views messages others pictures m n r Killed = refl
+of_ran_same c clients views messages others pictures m n r (Waits mask) = refl
 
 -- the lines of a request were run, and its end was made
 pub lines_do : (c : ℕ) (place : Place) (between : List ℕ) (lines : List (List ℕ)) (before mid after : CoreParts) (fresh work : Work)
-    (tags : TagMask) (end : RequestEnd) (handled : Handled) → fresh.text.items ≡ [] → fresh.ops.items ≡ [] →
+    (view : View) (end : RequestEnd) (handled : Handled) → fresh.text.items ≡ [] → fresh.ops.items ≡ [] →
     fresh.size ≡ checksum_len before.machine.saved.profile → before.talks.notified.items ≡ [] →
-    RunsLines c place between tags lines before.machine mid.machine before.talks mid.talks fresh work end → mid.watch ≡ before.watch →
-    mid.masks.list.items ≡ before.masks.list.items → tags ≡ tags_seen before.masks.list.items c →
+    RunsLines (asking c (state_of before)) place between view lines before.machine mid.machine before.talks mid.talks fresh work end → mid.watch ≡ before.watch →
+    mid.views.list.items ≡ before.views.list.items → mid.pictures.list.items ≡ before.pictures.list.items → view ≡ view_of before.views.list.items c →
     Does (of_ran c (state_of mid) (ran_of mid.machine mid.talks work end) end.ending) after handled →
-    Does (runs c (state_of before) (ran c place between handled.outcome.refused_at 0 (begun c (state_of before)) lines before.machine))
+    Does (runs c (state_of before) (ran (asking c (state_of before)) place between handled.outcome.refused_at 0 (begun c (state_of before)) lines before.machine))
     after handled
-lines_do c place between lines before mid after fresh work tags end handled text ops size nobody ran_so watch masks seen does =
-    let r : Ran = ran c place between end.refused_at 0 (begun c (state_of before)) lines before.machine in
-    let mine : Ran = ran c place between end.refused_at 0 (spent_of fresh.size 0 tags before.talks.messages) lines before.machine in
+lines_do c place between lines before mid after fresh work view end handled text ops size nobody ran_so watch views pictures seen does =
+    let r : Ran = ran (asking c (state_of before)) place between end.refused_at 0 (begun c (state_of before)) lines before.machine in
+    let mine : Ran = ran (asking c (state_of before)) place between end.refused_at 0 (spent_of fresh.size 0 view before.talks.messages) lines before.machine in
     let here : mine ≡ r =
-    (λ i. ran c place between end.refused_at 0 (spent_of (size i) 0 (seen i) before.talks.messages) lines before.machine) in
+    (λ i. ran (asking c (state_of before)) place between end.refused_at 0 (spent_of (size i) 0 (seen i) before.talks.messages) lines before.machine) in
     let same : ran_of mid.machine mid.talks work end ≡ r = λ i. record {
       after = (ran_so.stands ∙ ap (λ x. x.after) here) i;
       text = (ran_so.text ∙ ap (λ t. t ++ mine.text) text ∙ ap (λ x. x.text) here) i;
@@ -740,25 +785,26 @@ lines_do c place between lines before mid after fresh work tags end handled text
       ending = (ran_so.ending ∙ ap (λ x. x.ending) here) i;
       refused_at = (ran_so.refused_at ∙ ap (λ x. x.refused_at) here) i;
       looks = (ran_so.looks ∙ ap (λ x. x.looks) here) i;
-      tags = (ran_so.sees ∙ ap (λ x. x.tags) here) i;
+      view = (ran_so.sees ∙ ap (λ x. x.view) here) i;
       messages = (ran_so.messages ∙ ap (λ x. x.messages) here) i;
       notified = (ran_so.notified ∙ ap (λ t. t ++ mine.notified) nobody ∙ ap (λ x. x.notified) here) i;
     } in
     let at : handled.outcome.refused_at ≡ end.refused_at =
     does.refused_at ∙ of_ran_place c (state_of mid) (ran_of mid.machine mid.talks work end) end.ending in
     subst (λ place_at. Does (runs c (state_of before)
-    (ran c place between place_at 0 (begun c (state_of before)) lines before.machine)) after handled) (sym at)
+    (ran (asking c (state_of before)) place between place_at 0 (begun c (state_of before)) lines before.machine)) after handled) (sym at)
     (subst (λ a. Does a after handled)
-    ((λ i. of_ran c (record { machine = mid.machine; clients = watch i; masks = masks i; messages = mid.talks.messages }) (same i)
+    ((λ i. of_ran c (record { machine = mid.machine; clients = watch i; views = views i; messages = mid.talks.messages; pictures = pictures i }) (same i)
     (same i).ending)
-    ∙ of_ran_same c before.watch before.masks.list.items mid.talks.messages before.talks.messages mid.machine before.machine r r.ending)
+    ∙ of_ran_same c before.watch before.views.list.items mid.talks.messages before.talks.messages before.pictures.list.items mid.machine
+    before.machine r r.ending)
     does)
 
-pub lines_place : (c : ℕ) (place : Place) (between : List ℕ) (lines : List (List ℕ)) (first t : MachineState) (talks : Talks)
-    (mid after : CoreParts) (fresh work : Work) (tags : TagMask) (end : RequestEnd) (handled : Handled) →
-    RunsLines c place between tags lines first t talks mid.talks fresh work end →
+pub lines_place : (c : ℕ) (a : Asker) (place : Place) (between : List ℕ) (lines : List (List ℕ)) (first t : MachineState) (talks : Talks)
+    (mid after : CoreParts) (fresh work : Work) (view : View) (end : RequestEnd) (handled : Handled) →
+    RunsLines a place between view lines first t talks mid.talks fresh work end →
     Does (of_ran c (state_of mid) (ran_of mid.machine mid.talks work end) end.ending) after handled →
     IfSome handled.outcome.refused_at (λ k. k < length lines)
-lines_place c place between lines first t talks mid after fresh work tags end handled ran_so does =
+lines_place c a place between lines first t talks mid after fresh work view end handled ran_so does =
     subst (λ at. IfSome at (λ k. k < length lines))
     (sym (does.refused_at ∙ of_ran_place c (state_of mid) (ran_of mid.machine mid.talks work end) end.ending)) ran_so.within

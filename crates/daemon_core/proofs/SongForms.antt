@@ -38,7 +38,7 @@ use Rattle.player_core.specs.declared.seek.SongLength.{SongLength}
 use Rattle.player_core.specs.declared.settings.PlaySettings.{PlaySettings}
 use Rattle.song_db.specs.Row.{Row}
 use Rattle.state_codec.specs.declared.op.Op.{Op}
-use Rattle.state_codec.specs.declared.op.Op.TheVariants.{SetOption, SetVolume, SetOrder, Queue, List as Lists, Sticker, Batch, Place}
+use Rattle.state_codec.specs.declared.op.Op.TheVariants.{SetOption, SetVolume, SetOrder, Queue, List as Lists, Sticker, Batch, Place, Timed}
 use Rattle.state_codec.specs.declared.op.queue_op.QueueOp.{QueueOp}
 use Rattle.state_codec.specs.declared.op.queue_op.QueueOp.TheVariants as queue
 use Rattle.state_codec.specs.declared.op.setting.Setting.{Setting}
@@ -132,6 +132,7 @@ op_song (Lists op) m = λ h. h
 op_song (Sticker op) m = λ h. h
 op_song (Batch changes) m = cut_song _ m.player _ (followed_song m.saved.queue.entries (settings_of m.saved) no_block _ m.player)
 op_song (Place op) m = λ h. h
+op_song (Timed seconds) m = λ h. h
 
 next_song : (random : Bool) (player : PlayerState) (next : Option Choice) → has_song (gone_on_or_stopped random player next) ≡ true
 next_song random player None = refl

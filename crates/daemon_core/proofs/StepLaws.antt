@@ -24,17 +24,18 @@ use Rattle.daemon_core.proofs.RebuildLaws.{CommandsRebuild, step_rebuilds}
 pub is_outcome : (s : State) (event : Event) (p q : CoreParts) (handled : Handled) (outputs : Vec Output) →
     Does (acted s event handled.outcome.refused_at) p handled →
     outputs.items ≡ handled.outcome.outputs.items ++ map told_to (reports_of (with_news handled.changed p.talks.notified.items p.watch)) →
-    q.watch ≡ after_reports (with_news handled.changed p.talks.notified.items p.watch) → q.machine ≡ p.machine → q.masks ≡ p.masks →
-    q.talks ≡ p.talks →
+    q.watch ≡ after_reports (with_news handled.changed p.talks.notified.items p.watch) → q.machine ≡ p.machine → q.views ≡ p.views →
+    q.talks ≡ p.talks → q.pictures ≡ p.pictures →
     IfSome handled.outcome.refused_at (λ k. k < command_count event) →
     IsOutcome s event (record handled.outcome { outputs = outputs }) (state_of q)
 unfolding step
-is_outcome s event p q handled outputs does told watch machine masks talks place = record {
+is_outcome s event p q handled outputs does told watch machine views talks pictures place = record {
   after = (λ i. record {
     machine = machine i;
     clients = watch i;
-    masks = (let m = masks i in m.list.items);
+    views = (let m = views i in m.list.items);
     messages = (let t = talks i in t.messages);
+    pictures = (let m = pictures i in m.list.items);
   })
       ∙ (λ i. with_clients (does.state i)
       (after_reports (with_news (does.changed i) (does.notified i) (let v = does.state i in v.clients))));

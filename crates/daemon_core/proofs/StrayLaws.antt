@@ -45,14 +45,14 @@ use Rattle.daemon_core.specs.Pending.{with_news}
 use Rattle.daemon_core.specs.Quiet.{is_quiet}
 use Rattle.daemon_core.specs.Replay.{Entry, stepped, replay}
 use Rattle.daemon_core.specs.Session.{nothing, happened}
-use Rattle.daemon_core.specs.State.{State, clocked, with_clients, with_masks, with_messages}
+use Rattle.daemon_core.specs.State.{State, clocked, with_clients, with_views, with_messages, with_pictures}
 use Rattle.daemon_core.specs.Step.{Stepped, connects_client, requested_by, waiting_of, acted, settles, step}
 use Rattle.daemon_core.specs.Stray.{is_stop, is_late, is_over, is_stray, stays}
 use Rattle.daemon_core.specs.declared.event.Event.{Event}
 use Rattle.daemon_core.specs.declared.event.Event.TheVariants as events
 use Rattle.daemon_core.proofs.PendingLaws.{contains-set_of, set_ext}
 use Rattle.daemon_core.proofs.QuietLaws.{quiet}
-use Rattle.daemon_core.proofs.SeenLaws.{masks_absent, messages_absent}
+use Rattle.daemon_core.proofs.SeenLaws.{views_absent, messages_absent, pictures_absent, unread_absent}
 
 -- Where nobody waits for what is pending for it, an event that does nothing tells nobody.
 union-none : (s : Subsystems) → union s none ≡ s
@@ -253,8 +253,9 @@ acted_stray : (s : State) (event : Event) (refused : Option ℕ) → is_stray s 
 acted_stray s (events.Connect c) refused h = connect_again c s (watched s.clients c) h
 acted_stray s (events.Request c request) refused h = asked_by_none c refused s request (watched s.clients c) h
 acted_stray s (events.Gone c) refused h =
-    λ i. nothing (with_messages (with_masks (with_clients s (absent c s.clients h i)) (masks_absent (watched s.clients c) s.masks c h i))
-    (messages_absent (watched s.clients c) s.messages c h i))
+    λ i. nothing (with_pictures (with_messages (with_views (with_clients s (absent c s.clients h i))
+    (views_absent (watched s.clients c) s.views c h i)) (messages_absent (watched s.clients c) s.messages c h i))
+    (pictures_absent (watched s.clients c) s.pictures c h i))
 acted_stray s (events.Fed ticket frames) refused h = ap (happened s) (fed_late s.machine ticket frames h)
 acted_stray s (events.Ended ticket) refused h = kept_none s (when_ended ticket s.machine) (ended_late s.machine ticket h)
 acted_stray s (events.Broken ticket cause) refused h =
@@ -272,6 +273,8 @@ acted_stray s (events.Keep ticket) refused h =
 acted_stray s (events.Resume plays) refused h =
     ap (λ b. happened s (cond b (resumes plays s.machine s.machine.saved.place) (nothing_happens s.machine)))
     (not_false (s.machine.player.ticket == 0) h)
+acted_stray s (events.Picture c told) refused h =
+    λ i. nothing (with_pictures s (unread_absent (watched s.clients c) s.pictures c told h i))
 
 -- a clock tells the time, and nobody is due
 pub clock_told : (kept : SavedState) (history : List Entry) (time : ClockTime) (refused : Option ℕ) →

@@ -16,6 +16,9 @@ use Rattle.command_text.specs.declared.command.messages.MessagesCommand.TheVaria
 use Rattle.idle_masks.specs.Subsystems.{only}
 use Rattle.idle_masks.specs.declared.subsystem.Subsystem.TheVariants.{Subscription}
 use Rattle.machine_core.specs.declared.work.Failure.{Failure}
+use Rattle.machine_core.specs.State.{MachineState}
+use Rattle.command_text.specs.declared.command.pictures.PicturesCommand.{PicturesCommand}
+use Rattle.daemon_core.specs.Run.{Asker, Spent, own_of}
 use Rattle.daemon_core.specs.Talk.{Talk, refusal_of, silent, talk_of, talked, unless_refused}
 use Rattle.daemon_core.specs.Talking.{IsTalkRefusal, failure_of}
 
@@ -25,6 +28,14 @@ pub no_talk : (c : ℕ) (ms : List Listener) (command : Command) → ((x : Messa
 unfolding talk_of
 no_talk c ms (topics.Messages x) other = absurd (other x refl)
 no_talk c ms command other = refl
+
+-- a command that the machine performs
+pub no_own : (a : Asker) (spent : Spent) (command : Command) (m : MachineState) → ((x : MessagesCommand) → command ≡ topics.Messages x → ⊥)
+    → ((x : PicturesCommand) → command ≡ topics.Pictures x → ⊥) → own_of a spent command m ≡ None
+unfolding own_of talk_of
+no_own a spent (topics.Messages x) m other more = absurd (other x refl)
+no_own a spent (topics.Pictures x) m other more = absurd (more x refl)
+no_own a spent command m other more = refl
 
 -- a message notifies some of the listeners
 one_more : (c : ℕ) (rest : List ℕ) (notices : Bool) →

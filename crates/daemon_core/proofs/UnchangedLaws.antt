@@ -26,12 +26,12 @@ use Rattle.machine_core.specs.State.{MachineState}
 use Rattle.song_db.specs.declared.change.RowChange.{RowChange}
 use Rattle.state_codec.specs.SavedState.{IsSavedState}
 use Rattle.state_codec.specs.declared.op.Op.{Op}
-use Rattle.daemon_core.specs.Run.{Did, Done, Goes, Refuses, Ends, attempted}
+use Rattle.daemon_core.specs.Run.{Asker, Did, Done, Goes, Refuses, Ends, attempted}
 use Rattle.daemon_core.specs.Run.{Ran, wants_memory, follow, is_refused_at, ran}
 use Rattle.daemon_core.specs.Run.{Spent, spent_behind, spent_on}
 use Rattle.daemon_core.specs.Session.{of_ran, runs}
 use Rattle.daemon_core.specs.State.{State}
-use Rattle.daemon_core.specs.Step.{begun, connects_client, asked, waits_no_more, is_noidle, requested_by, waiting_of, acted, step}
+use Rattle.daemon_core.specs.Step.{asking, begun, connects_client, asked, waits_no_more, is_noidle, requested_by, waiting_of, acted, step}
 use Rattle.daemon_core.specs.Unchanged.{CommandLeaves, CommandsLeave, RequestLeaves, AskedLeaves, LeavesSaved}
 use Rattle.daemon_core.specs.declared.event.Event.{Event}
 use Rattle.daemon_core.specs.declared.event.Event.TheVariants as events
@@ -76,14 +76,14 @@ DidTells m (Ends ending) = Unit {0}
 silent : (m : MachineState) → Tells (Unit {0}) m []
 silent m = record { none = λ saved leaves. refl; same = λ empty. tt }
 
-attempted_tells : (known : MachineTells) (c : ℕ) (place : Place) (spent : Spent) (line : List ℕ) (m : MachineState) →
+attempted_tells : (known : MachineTells) (c : Asker) (place : Place) (spent : Spent) (line : List ℕ) (m : MachineState) →
     DidTells m (attempted c place spent line m)
 attempted_tells known c place spent line m =
     line_is (DidTells m) c place spent line m (λ ending. tt) (λ refusal. tt)
     (λ command talk is. record { none = λ saved leaves. refl; same = λ empty. refl })
     (λ command x means fits. record {
-      none = λ saved leaves. known.none spent.tags command m x saved means leaves;
-      same = λ empty. known.same spent.tags command m x means empty;
+      none = λ saved leaves. known.none spent.view.tags command m x saved means leaves;
+      same = λ empty. known.same spent.view.tags command m x means empty;
     })
 
 -- so does what a request ran
@@ -114,7 +114,7 @@ here_tells spent m index line r Leaves true tells =
 here_tells spent m index line r Leaves false tells =
     record { none = λ saved leaves. tells.none saved (leaves refl); same = λ empty not. tells.same empty }
 
-ran_tells : (known : MachineTells) (c : ℕ) (place : Place) (separator : List ℕ) (refused : Option ℕ) (index : ℕ) (spent : Spent)
+ran_tells : (known : MachineTells) (c : Asker) (place : Place) (separator : List ℕ) (refused : Option ℕ) (index : ℕ) (spent : Spent)
     (lines : List (List ℕ)) (m : MachineState) →
     let r = ran c place separator refused index spent lines m in Tells (CommandsLeave c place refused index spent lines m) m r.ops
 unfolding ran CommandsLeave
@@ -139,14 +139,14 @@ runs_tells : (c : ℕ) (s : State) (r : Ran) (Leaves : Type 0) → Tells Leaves 
 runs_tells c s r Leaves tells = of_ran_tells c s r r.ending Leaves tells
 
 asked_tells : (known : MachineTells) (c : ℕ) (refused : Option ℕ) (s : State) (request : Request) →
-    let a = asked c refused s request in Tells (RequestLeaves c refused (begun c s) s.machine request)
+    let a = asked c refused s request in Tells (RequestLeaves (asking c s) refused (begun c s) s.machine request)
     s.machine a.ops
 asked_tells known c refused s (Single line) =
-    runs_tells c s _ _ (ran_tells known c Alone [] refused 0 (begun c s) (line ∷ []) s.machine)
+    runs_tells c s _ _ (ran_tells known (asking c s) Alone [] refused 0 (begun c s) (line ∷ []) s.machine)
 asked_tells known c refused s (CommandList lines) =
-    runs_tells c s _ _ (ran_tells known c InList [] refused 0 (begun c s) lines s.machine)
+    runs_tells c s _ _ (ran_tells known (asking c s) InList [] refused 0 (begun c s) lines s.machine)
 asked_tells known c refused s (OkList lines) =
-    runs_tells c s _ _ (ran_tells known c InList list_ok refused 0 (begun c s) lines s.machine)
+    runs_tells c s _ _ (ran_tells known (asking c s) InList list_ok refused 0 (begun c s) lines s.machine)
 asked_tells known c refused s Noidle = silent s.machine
 
 waiting_tells : (noidle : Bool) (c : ℕ) (s : State) → let a = waits_no_more noidle c s in Tells (Unit {0}) s.machine a.ops
@@ -155,7 +155,7 @@ waiting_tells false c s = silent s.machine
 
 requested_tells : (known : MachineTells) (c : ℕ) (refused : Option ℕ) (s : State) (request : Request)
     (found : Option (Option Subsystems)) →
-    let a = requested_by c refused s request found in Tells (AskedLeaves c refused (begun c s) s.machine request found) s.machine a.ops
+    let a = requested_by c refused s request found in Tells (AskedLeaves (asking c s) refused (begun c s) s.machine request found) s.machine a.ops
 requested_tells known c refused s request None = silent s.machine
 requested_tells known c refused s request (Some None) = asked_tells known c refused s request
 requested_tells known c refused s request (Some (Some mask)) = waiting_tells (is_noidle request) c s
@@ -216,6 +216,7 @@ acted_tells known s (events.Clock time) refused = silent s.machine
 acted_tells known s (events.Keep ticket) refused =
     record { none = known.kept_none ticket s.machine; same = known.kept_same ticket s.machine }
 acted_tells known s (events.Resume plays) refused = resumed_tells plays s.machine
+acted_tells known s (events.Picture c told) refused = silent s.machine
 
 pub no_op : (known : MachineTells) (s : State) (event : Event) (refused : Option ℕ) → IsSavedState s.machine.saved
     → LeavesSaved s event refused → (step s event refused).ops ≡ []

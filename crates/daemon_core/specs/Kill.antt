@@ -14,9 +14,9 @@ use Rattle.command_text.specs.declared.request.Request.TheVariants.{Single, List
 use Rattle.idle_masks.specs.Watched.{watched}
 use Rattle.idle_masks.specs.declared.subsystem.Subsystems.{Subsystems}
 use Rattle.machine_core.specs.State.{MachineState}
-use Rattle.daemon_core.specs.Run.{Did, Done, Goes, Refuses, Ends, attempted, is_refused_at, Spent, spent_behind, spent_on}
+use Rattle.daemon_core.specs.Run.{Asker, Did, Done, Goes, Refuses, Ends, attempted, is_refused_at, Spent, spent_behind, spent_on}
 use Rattle.daemon_core.specs.State.{State}
-use Rattle.daemon_core.specs.Step.{begun, waiting_of}
+use Rattle.daemon_core.specs.Step.{asking, begun, waiting_of}
 use Rattle.daemon_core.specs.declared.event.Event.{Event}
 use Rattle.daemon_core.specs.declared.event.Event.TheVariants as events
 
@@ -40,14 +40,14 @@ goes_on (Refuses refusal) rest = false
 goes_on (Ends ending) rest = false
 
 -- The commands from this index on come to `kill`: those before it go well, and none of them nor `kill` is refused memory.
-unfoldable pub comes_to_kill : ℕ → Place → Option ℕ → ℕ → Spent → List (List ℕ) → MachineState → Bool
+unfoldable pub comes_to_kill : Asker → Place → Option ℕ → ℕ → Spent → List (List ℕ) → MachineState → Bool
 comes_to_kill c place refused index spent [] m = false
 comes_to_kill c place refused index spent (line ∷ lines) m =
     not (is_refused_at refused index) && (reads_kill (line_reading m.saved.profile place line)
     || goes_on (attempted c place spent line m) (λ x.
     comes_to_kill c place refused (suc index) (spent_on (spent_behind place line m spent) x) lines x.after))
 
-abbrev pub request_kills : ℕ → Option ℕ → Spent → MachineState → Request → Bool
+abbrev pub request_kills : Asker → Option ℕ → Spent → MachineState → Request → Bool
 request_kills c refused spent m (Single line) = comes_to_kill c Alone refused 0 spent (line ∷ []) m
 request_kills c refused spent m (CommandList lines) = comes_to_kill c InList refused 0 spent lines m
 request_kills c refused spent m (OkList lines) = comes_to_kill c InList refused 0 spent lines m
@@ -55,7 +55,7 @@ request_kills c refused spent m Noidle = false
 
 -- a client that is connected and doesn't wait asks so
 abbrev pub asks_to_kill : ℕ → Option ℕ → State → Request → Option (Option Subsystems) → Bool
-asks_to_kill c refused s request (Some None) = request_kills c refused (begun c s) s.machine request
+asks_to_kill c refused s request (Some None) = request_kills (asking c s) refused (begun c s) s.machine request
 asks_to_kill c refused s request found = false
 
 abbrev pub ends_daemon : State → Event → Option ℕ → Bool

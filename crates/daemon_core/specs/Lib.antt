@@ -1,4 +1,6 @@
 pub mod Seen
+pub mod Views
+pub mod Pictures
 pub mod State
 pub mod Run
 pub mod Session

@@ -27,6 +27,7 @@ command_count (events.ScanDone job) = 0
 command_count (events.Clock time) = 0
 command_count (events.Keep ticket) = 0
 command_count (events.Resume plays) = 0
+command_count (events.Picture c told) = 0
 
 -- The answer and the state after are those of the step, with memory refused at the command that the answer names, or at none.
 -- That command is one of the event's, and the step reached it: where it ended earlier the answer names none.

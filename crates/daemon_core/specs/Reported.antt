@@ -29,3 +29,4 @@ IsReported (events.ScanDone job) m = IsRebuilt m (when_scanned job m)
 IsReported (events.Clock time) m = Unit {0}
 IsReported (events.Keep ticket) m = IsRebuilt m (when_kept ticket m)
 IsReported (events.Resume plays) m = IsRebuilt m (when_resumed plays m)
+IsReported (events.Picture c told) m = Unit {0}

@@ -6,7 +6,7 @@ use Rattle.command_text.specs.declared.place.Place.{Place}
 use Rattle.command_text.specs.declared.refusal.CommandRefusal.{CommandRefusal}
 use Rattle.command_text.specs.declared.refusal.ReadError.{ReadError}
 use Rattle.command_text.specs.declared.refusal.ReadError.TheVariants as errors
-use Rattle.command_text.specs.declared.tag_mask.TagMask.{TagMask}
+use Rattle.daemon_core.specs.declared.view.View.{View}
 use Rattle.idle_masks.specs.declared.subsystem.Subsystems.{Subsystems}
 use Rattle.machine_core.specs.Looks.{max_looks}
 use Rattle.machine_core.specs.State.{MachineState}
@@ -16,7 +16,7 @@ use Rattle.machine_core.specs.declared.work.Failure.TheVariants as failures
 use Rattle.machine_core.specs.declared.work.Work.{Work}
 use Rattle.profile.specs.declared.profile.Profile.{Profile}
 use Rattle.state_codec.specs.Spelling.{ops_bytes}
-use Rattle.daemon_core.specs.Run.{Did, Done, Goes, Refuses, Ends, Ran, ran, spent_of}
+use Rattle.daemon_core.specs.Run.{Asker, Did, Done, Goes, Refuses, Ends, Ran, ran, spent_of}
 use Rattle.daemon_core.specs.Talking.{IsSame}
 use Rattle.daemon_core.specs.declared.talk.Talks.{Talks}
 use Rattle.daemon_core.specs.declared.outcome.Ending.{Ending}
@@ -40,7 +40,7 @@ ran_of m talks work end = record {
   ending = end.ending;
   refused_at = end.refused_at;
   looks = end.looks;
-  tags = end.tags;
+  view = end.view;
   messages = talks.messages;
   notified = talks.notified.items;
 }
@@ -119,17 +119,17 @@ CountsLooks all looks (Err (stops.Ends ending)) = looks ≡ all
 CountsLooks all looks (Err (stops.Refused refusal)) = looks ≡ all
 CountsLooks all looks (Err stops.NoMemory) = Unit {0}
 
--- The client sees these tags behind a command. Nothing is said where it found no memory.
-abbrev pub SeesTags : TagMask → TagMask → Result Subsystems Stop → Type 0
-SeesTags all tags (Ok set) = tags ≡ all
-SeesTags all tags (Err (stops.Ends ending)) = tags ≡ all
-SeesTags all tags (Err (stops.Refused refusal)) = tags ≡ all
-SeesTags all tags (Err stops.NoMemory) = Unit {0}
+-- The client is told so behind a command. Nothing is said where it found no memory.
+abbrev pub HasView : View → View → Result Subsystems Stop → Type 0
+HasView all view (Ok set) = view ≡ all
+HasView all view (Err (stops.Ends ending)) = view ≡ all
+HasView all view (Err (stops.Refused refusal)) = view ≡ all
+HasView all view (Err stops.NoMemory) = Unit {0}
 
--- the tags that the client sees behind a request that ended at a command: those before it where memory was refused
-abbrev pub tags_at_end : Option ℕ → TagMask → TagMask → TagMask
-tags_at_end None before behind = behind
-tags_at_end (Some place) before behind = before
+-- how the client is told behind a request that ended at a command: those before it where memory was refused
+abbrev pub view_at_end : Option ℕ → View → View → View
+view_at_end None before behind = behind
+view_at_end (Some place) before behind = before
 
 -- how much a request looked at that ended at a command: all that it may where memory was refused
 abbrev pub looks_at_end : Option ℕ → ℕ → ℕ
@@ -151,23 +151,23 @@ AnswersStop profile stop index line None ending work done = AnswersIt stop index
 AnswersStop profile stop index line (Some place) ending work done = (place ≡ index) × WantsMemory profile index line ending work done
 
 -- what the request does whose end this is, by this client and with these messages before it
-abbrev pub ran_for : ℕ → Place → List ℕ → TagMask → List (List ℕ) → MachineState → Talks → Work → RequestEnd → Ran
-ran_for c place between tags lines before talks work end =
-    ran c place between end.refused_at 0 (spent_of work.size 0 tags talks.messages) lines before
+abbrev pub ran_for : Asker → Place → List ℕ → View → List (List ℕ) → MachineState → Talks → Work → RequestEnd → Ran
+ran_for c place between view lines before talks work end =
+    ran c place between end.refused_at 0 (spent_of work.size 0 view talks.messages) lines before
 
 -- the commands were run as the request means them, with memory refused where its end says, at one of them or at none
 pub record RunsLines
-    (c : ℕ) (place : Place) (between : List ℕ) (tags : TagMask) (lines : List (List ℕ)) (before after : MachineState)
+    (c : Asker) (place : Place) (between : List ℕ) (view : View) (lines : List (List ℕ)) (before after : MachineState)
     (talks talked : Talks) (work done : Work) (end : RequestEnd)
     : Type 0 where
-  pub stands : after ≡ (ran_for c place between tags lines before talks work end).after
-  pub text : done.text.items ≡ work.text.items ++ (ran_for c place between tags lines before talks work end).text
-  pub ops : done.ops.items ≡ work.ops.items ++ (ran_for c place between tags lines before talks work end).ops
-  pub changed : end.changed ≡ (ran_for c place between tags lines before talks work end).changed
-  pub ending : end.ending ≡ (ran_for c place between tags lines before talks work end).ending
-  pub refused_at : end.refused_at ≡ (ran_for c place between tags lines before talks work end).refused_at
-  pub looks : end.looks ≡ (ran_for c place between tags lines before talks work end).looks
-  pub sees : end.tags ≡ (ran_for c place between tags lines before talks work end).tags
-  pub messages : talked.messages ≡ (ran_for c place between tags lines before talks work end).messages
-  pub notified : talked.notified.items ≡ talks.notified.items ++ (ran_for c place between tags lines before talks work end).notified
+  pub stands : after ≡ (ran_for c place between view lines before talks work end).after
+  pub text : done.text.items ≡ work.text.items ++ (ran_for c place between view lines before talks work end).text
+  pub ops : done.ops.items ≡ work.ops.items ++ (ran_for c place between view lines before talks work end).ops
+  pub changed : end.changed ≡ (ran_for c place between view lines before talks work end).changed
+  pub ending : end.ending ≡ (ran_for c place between view lines before talks work end).ending
+  pub refused_at : end.refused_at ≡ (ran_for c place between view lines before talks work end).refused_at
+  pub looks : end.looks ≡ (ran_for c place between view lines before talks work end).looks
+  pub sees : end.view ≡ (ran_for c place between view lines before talks work end).view
+  pub messages : talked.messages ≡ (ran_for c place between view lines before talks work end).messages
+  pub notified : talked.notified.items ≡ talks.notified.items ++ (ran_for c place between view lines before talks work end).notified
   pub within : IfSome end.refused_at (λ place. place < length lines)

@@ -16,10 +16,7 @@ use Rattle.command_text.specs.declared.place.Place.{Place}
 use Rattle.command_text.specs.declared.refusal.CommandRefusal.{CommandRefusal}
 use Rattle.command_text.specs.declared.refusal.Refusal.{Refusal}
 use Rattle.command_text.specs.declared.refusal.Refusal.TheVariants.{OfCommand}
-use Rattle.command_text.specs.declared.tag_mask.TagMask.{TagMask}
-use Rattle.command_text.specs.declared.command.database.DatabaseCommand.{DatabaseCommand}
-use Rattle.command_text.specs.declared.command.database.DatabaseCommand.TheVariants as database
-use Rattle.command_text.specs.Masks.{after_change}
+use Rattle.daemon_core.specs.declared.view.View.{View}
 use Rattle.idle_masks.specs.Subsystems.{none, union}
 use Rattle.idle_masks.specs.declared.subsystem.Subsystems.{Subsystems}
 use Rattle.machine_core.specs.Changed.{changed}
@@ -32,9 +29,20 @@ use Rattle.machine_core.specs.State.{MachineState}
 use Rattle.state_codec.specs.Sealed.{checksum_len}
 use Rattle.state_codec.specs.Spelling.{ops_bytes}
 use Rattle.state_codec.specs.declared.op.Op.{Op}
-use Rattle.daemon_core.specs.Talk.{Talk, talk_of}
+use Rattle.daemon_core.specs.Pictures.{shown}
+use Rattle.daemon_core.specs.Talk.{Talk, silent, talk_of}
+use Rattle.daemon_core.specs.Views.{view_behind}
+use Rattle.daemon_core.specs.declared.picture.PictureTold.{PictureTold}
 use Rattle.daemon_core.specs.declared.outcome.Ending.{Ending}
 use Rattle.daemon_core.specs.declared.outcome.Ending.TheVariants.{Answered, Closed, Killed, Waits}
+
+-- who asks: a client, and the picture that was read for it
+pub record Asker : Type 0 where
+  pub client : ℕ
+  pub told : Option PictureTold
+
+abbrev pub asker : ℕ → Option PictureTold → Asker
+asker c told = record { client = c; told = told }
 
 -- What a command did that went well: its lines, the ops that it made, the machine after it, who has which channels and what each hasn't
 -- read, the subsystems that it changed, and the clients that it notified of a message.
@@ -72,7 +80,7 @@ abbrev pub done_of : MachineState → List Listener → Meaning → Done
 done_of m messages x =
     record { text = x.text; ops = x.ops; after = x.after; messages = messages; changed = changed m x.after; notified = [] }
 
--- a command of messages leaves the machine
+-- a command of messages or of pictures leaves the machine
 abbrev pub talk_done : MachineState → Talk → Done
 talk_done m talk = record {
   text = talk.text;
@@ -104,49 +112,50 @@ unless_it_ends None did = did
 unless_it_ends (Some ending) did = Ends ending
 
 -- What the commands of a request hand on to the next one: what they have spent of what it may, the bytes of a record of their ops, and how
--- much they have looked at; the tags that the client sees; and who has which channels and what each hasn't read.
+-- much they have looked at; how the client is told; and who has which channels and what each hasn't read.
 pub record Spent : Type 0 where
   pub size : ℕ
   pub looks : ℕ
-  pub tags : TagMask
+  pub view : View
   pub messages : List Listener
 
-abbrev pub spent_of : ℕ → ℕ → TagMask → List Listener → Spent
-spent_of size looks tags messages = record { size = size; looks = looks; tags = tags; messages = messages }
+abbrev pub spent_of : ℕ → ℕ → View → List Listener → Spent
+spent_of size looks view messages = record { size = size; looks = looks; view = view; messages = messages }
 
 -- the record of a request begins with what stands behind its ops
-abbrev pub unspent : MachineState → TagMask → List Listener → Spent
-unspent m tags messages = spent_of (checksum_len m.saved.profile) 0 tags messages
+abbrev pub unspent : MachineState → View → List Listener → Spent
+unspent m view messages = spent_of (checksum_len m.saved.profile) 0 view messages
 
-abbrev pub database_tags : DatabaseCommand → TagMask → TagMask
-database_tags (database.ChangeMask change) tags = after_change change tags
-database_tags other tags = tags
-
--- the tags that the client sees behind a command
-unfoldable pub tags_behind : Command → TagMask → TagMask
-tags_behind (commands.Database command) tags = database_tags command tags
-tags_behind command tags = tags
-
--- what a command means, within what is left of both, with what is kept of the player behind it
+-- what a command means, within what is left of both, with what is kept of the player and of the playlists' times behind it
 abbrev pub within_both : Spent → Command → MachineState → Meant
 within_both spent command m =
-    kept m (within_room m.saved.profile spent.size (weighed spent.looks (looks_of command m) (meaning spent.tags command m)))
+    kept m (within_room m.saved.profile spent.size (weighed spent.looks (looks_of command m) (meaning spent.view.tags command m)))
+
+-- a command of pictures tells its lines, and leaves the messages
+abbrev pub shows : List Listener → Result (List ℕ) CommandRefusal → Result Talk CommandRefusal
+shows messages (Ok text) = Ok (record (silent messages) { text = text })
+shows messages (Err refusal) = Err refusal
+
+-- what a command does that the daemon performs, and not the machine, if it is one of those
+unfoldable pub own_of : Asker → Spent → Command → MachineState → Option (Result Talk CommandRefusal)
+own_of a spent (commands.Pictures command) m = Some (shows spent.messages (shown spent.view.limit a.told m.saved.songs command))
+own_of a spent command m = talk_of a.client spent.messages command
 
 -- what a command of this client does that doesn't end its request
-unfoldable pub done_by : ℕ → Spent → Command → MachineState → Result Done CommandRefusal
-done_by c spent command m = either_does m spent.messages (talk_of c spent.messages command) (within_both spent command m)
+unfoldable pub done_by : Asker → Spent → Command → MachineState → Result Done CommandRefusal
+done_by a spent command m = either_does m spent.messages (own_of a spent command m) (within_both spent command m)
 
 -- what a command of this client does, where those before it have spent so much
-unfoldable pub performed : ℕ → Spent → NamedCommand → MachineState → Did
-performed c spent named m = unless_it_ends (ending_of named.command) (did_of named.name (done_by c spent named.command m))
+unfoldable pub performed : Asker → Spent → NamedCommand → MachineState → Did
+performed a spent named m = unless_it_ends (ending_of named.command) (did_of named.name (done_by a spent named.command m))
 
-abbrev pub read_and_performed : ℕ → Spent → MachineState → Result NamedCommand Refusal → Did
-read_and_performed c spent m (Err refusal) = Refuses refusal
-read_and_performed c spent m (Ok named) = performed c spent named m
+abbrev pub read_and_performed : Asker → Spent → MachineState → Result NamedCommand Refusal → Did
+read_and_performed a spent m (Err refusal) = Refuses refusal
+read_and_performed a spent m (Ok named) = performed a spent named m
 
 -- what the line of one command does
-unfoldable pub attempted : ℕ → Place → Spent → List ℕ → MachineState → Did
-attempted c place spent line m = read_and_performed c spent m (line_reading m.saved.profile place line)
+unfoldable pub attempted : Asker → Place → Spent → List ℕ → MachineState → Did
+attempted a place spent line m = read_and_performed a spent m (line_reading m.saved.profile place line)
 
 abbrev pub looks_read : Result NamedCommand Refusal → MachineState → ℕ
 looks_read (Err refusal) m = 0
@@ -156,23 +165,23 @@ looks_read (Ok named) m = looks_of named.command m
 unfoldable pub looks_of_line : Place → List ℕ → MachineState → ℕ
 looks_of_line place line m = looks_read (line_reading m.saved.profile place line) m
 
-abbrev pub tags_read : Result NamedCommand Refusal → TagMask → TagMask
-tags_read (Err refusal) tags = tags
-tags_read (Ok named) tags = tags_behind named.command tags
+abbrev pub view_read : Result NamedCommand Refusal → View → View
+view_read (Err refusal) view = view
+view_read (Ok named) view = view_behind named.command view
 
--- the tags that the client sees behind the command of a line
-unfoldable pub tags_of_line : Place → List ℕ → MachineState → TagMask → TagMask
-tags_of_line place line m tags = tags_read (line_reading m.saved.profile place line) tags
+-- how the client is told behind the command of a line
+unfoldable pub view_of_line : Place → List ℕ → MachineState → View → View
+view_of_line place line m view = view_read (line_reading m.saved.profile place line) view
 
 -- what is spent behind the command of a line, which makes these ops
 abbrev pub spent_behind : Place → List ℕ → MachineState → Spent → List Op → Spent
 spent_behind place line m spent ops =
     spent_of (spent.size + length (ops_bytes m.saved.profile ops)) (looked spent.looks (looks_of_line place line m))
-    (tags_of_line place line m spent.tags) spent.messages
+    (view_of_line place line m spent.view) spent.messages
 
 -- What a request did: the machine after it, its answer, the subsystems that one of its commands changed, its ops in order, how
 -- it ended, the place of the command that it reached and that was refused memory, if there was one, how much its commands looked at, that
--- at which it ended too, and the tags that its client sees behind it; who has which channels and what each hasn't read behind it, and the
+-- at which it ended too, and how its client is told behind it; who has which channels and what each hasn't read behind it, and the
 -- clients for which `message` is pending.
 pub record Ran : Type 0 where
   pub after : MachineState
@@ -182,7 +191,7 @@ pub record Ran : Type 0 where
   pub ending : Ending
   pub refused_at : Option ℕ
   pub looks : ℕ
-  pub tags : TagMask
+  pub view : View
   pub messages : List Listener
   pub notified : List ℕ
 
@@ -196,7 +205,7 @@ ends m spent text ending = record {
   ending = ending;
   refused_at = None;
   looks = spent.looks;
-  tags = spent.tags;
+  view = spent.view;
   messages = spent.messages;
   notified = [];
 }
@@ -220,7 +229,7 @@ preceded text changes ops notified rest = record {
   ending = rest.ending;
   refused_at = rest.refused_at;
   looks = rest.looks;
-  tags = rest.tags;
+  view = rest.view;
   messages = rest.messages;
   notified = notified ++ rest.notified;
 }
@@ -248,10 +257,10 @@ follow separator index behind m rest (Ends ending) = ends m (behind []) [] endin
 
 -- The commands of this client from this index on, where those before have spent so much, and memory is refused at one command or at none.
 -- Each command that goes well adds its lines and the separator; the first that doesn't ends the request, and what ran before it stays.
-unfoldable pub ran : ℕ → Place → List ℕ → Option ℕ → ℕ → Spent → List (List ℕ) → MachineState → Ran
-ran c place separator refused index spent [] m = ends m spent ok Answered
-ran c place separator refused index spent (line ∷ lines) m =
+unfoldable pub ran : Asker → Place → List ℕ → Option ℕ → ℕ → Spent → List (List ℕ) → MachineState → Ran
+ran a place separator refused index spent [] m = ends m spent ok Answered
+ran a place separator refused index spent (line ∷ lines) m =
     if is_refused_at refused index then wants_memory m spent index line
     else follow separator index (spent_behind place line m spent) m
-    (λ spent after. ran c place separator refused (suc index) spent lines after)
-    (attempted c place spent line m)
+    (λ spent after. ran a place separator refused (suc index) spent lines after)
+    (attempted a place spent line m)

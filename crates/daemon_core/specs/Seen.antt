@@ -1,33 +1,33 @@
--- Which tags each client sees.
+-- How each client is told.
 use Rattle.std.specs.Prelude.{ℕ, ◌==◌, not, List, [], ◌∷◌, ◌++◌, filter, find, Option, Some, None, if◌then◌else◌}
-use Rattle.command_text.specs.Masks.{all_in_mask, is_all}
-use Rattle.command_text.specs.declared.tag_mask.TagMask.{TagMask}
+use Rattle.daemon_core.specs.Views.{fresh_view, is_fresh, same_view}
+use Rattle.daemon_core.specs.declared.view.View.{View}
 use Rattle.idle_masks.specs.declared.watch.Watched.{Watched}
-use Rattle.daemon_core.specs.declared.masks.ClientMask.{ClientMask}
+use Rattle.daemon_core.specs.declared.views.ClientView.{ClientView}
 
-abbrev pub mask_or_all : Option ClientMask → TagMask
-mask_or_all None = all_in_mask
-mask_or_all (Some m) = m.tags
+abbrev pub view_or_fresh : Option ClientView → View
+view_or_fresh None = fresh_view
+view_or_fresh (Some m) = m.view
 
--- a client sees all tags, unless it has said which
-abbrev pub tags_seen : List ClientMask → ℕ → TagMask
-tags_seen masks c = mask_or_all (find (λ m. m.client == c) masks)
+-- a client is told as at first, unless it has said how
+abbrev pub view_of : List ClientView → ℕ → View
+view_of views c = view_or_fresh (find (λ m. m.client == c) views)
 
 -- the client is forgotten
-abbrev pub unmasked : List ClientMask → ℕ → List ClientMask
-unmasked masks c = filter (λ m. not (m.client == c)) masks
+abbrev pub unviewed : List ClientView → ℕ → List ClientView
+unviewed views c = filter (λ m. not (m.client == c)) views
 
 -- where it was connected
-abbrev pub masks_without : Option Watched → List ClientMask → ℕ → List ClientMask
-masks_without None masks c = masks
-masks_without (Some w) masks c = unmasked masks c
+abbrev pub views_without : Option Watched → List ClientView → ℕ → List ClientView
+views_without None views c = views
+views_without (Some w) views c = unviewed views c
 
-abbrev pub mask_of : ℕ → TagMask → ClientMask
-mask_of c tags = record { client = c; tags = tags }
+abbrev pub client_view : ℕ → View → ClientView
+client_view c view = record { client = c; view = view }
 
-abbrev pub own_mask : ℕ → TagMask → List ClientMask
-own_mask c tags = if is_all tags then [] else mask_of c tags ∷ []
+abbrev pub own_view : ℕ → View → List ClientView
+own_view c view = if is_fresh view then [] else client_view c view ∷ []
 
--- the client sees these from now on
-abbrev pub masked : List ClientMask → ℕ → TagMask → List ClientMask
-masked masks c tags = if (tags_seen masks c).bits == tags.bits then masks else unmasked masks c ++ own_mask c tags
+-- the client is told so from now on
+abbrev pub viewed : List ClientView → ℕ → View → List ClientView
+viewed views c view = if same_view (view_of views c) view then views else unviewed views c ++ own_view c view

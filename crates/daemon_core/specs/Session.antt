@@ -8,10 +8,11 @@ use Rattle.idle_masks.specs.declared.subsystem.Subsystems.{Subsystems}
 use Rattle.idle_masks.specs.declared.watch.Watched.{Watched}
 use Rattle.machine_core.specs.Happening.{Happening}
 use Rattle.state_codec.specs.declared.op.Op.{Op}
-use Rattle.command_text.specs.declared.tag_mask.TagMask.{TagMask}
+use Rattle.daemon_core.specs.declared.view.View.{View}
 use Rattle.daemon_core.specs.Run.{Ran}
-use Rattle.daemon_core.specs.Seen.{masked, masks_without}
-use Rattle.daemon_core.specs.State.{State, with_machine, with_clients, with_masks, with_messages}
+use Rattle.daemon_core.specs.Seen.{viewed, views_without}
+use Rattle.daemon_core.specs.Pictures.{pictures_without, unpictured}
+use Rattle.daemon_core.specs.State.{State, with_machine, with_clients, with_views, with_messages, with_pictures}
 use Rattle.daemon_core.specs.declared.outcome.Ending.{Ending}
 use Rattle.daemon_core.specs.declared.outcome.Ending.TheVariants.{Answered, Closed, Killed, Waits}
 use Rattle.daemon_core.specs.declared.outcome.Output.{Output}
@@ -62,16 +63,16 @@ messages_without (Some w) messages c = forgotten messages c
 -- the client is connected no more
 abbrev pub without : ℕ → State → State
 without c s =
-    with_messages (with_masks (with_clients s (left s.clients c)) (masks_without (watched s.clients c) s.masks c))
-    (messages_without (watched s.clients c) s.messages c)
+    with_pictures (with_messages (with_views (with_clients s (left s.clients c)) (views_without (watched s.clients c) s.views c))
+    (messages_without (watched s.clients c) s.messages c)) (pictures_without (watched s.clients c) s.pictures c)
 
 -- nobody is
 abbrev pub without_all : State → State
-without_all s = with_messages (with_masks (with_clients s []) []) []
+without_all s = with_pictures (with_messages (with_views (with_clients s []) []) []) []
 
--- the client sees these tags
-abbrev pub seeing : ℕ → TagMask → State → State
-seeing c tags s = with_masks s (masked s.masks c tags)
+-- the client is told so
+abbrev pub seeing : ℕ → View → State → State
+seeing c view s = with_views s (viewed s.views c view)
 
 -- the client waits for these subsystems, or no longer
 abbrev pub waiting : ℕ → Option Subsystems → State → State
@@ -95,12 +96,16 @@ ran_silently s r =
 abbrev pub talked_in : Ran → State → State
 talked_in r s = with_messages s r.messages
 
+-- what was read for the client was for this request
+abbrev pub untold : ℕ → State → State
+untold c s = with_pictures s (unpictured s.pictures c)
+
 -- What comes of a request of this client, by how it ended. A client that waits is answered where the changes are told.
 abbrev pub of_ran : ℕ → State → Ran → Ending → Acted
-of_ran c s r Answered = record (ran_silently (seeing c r.tags (talked_in r s)) r) { answer = output c r.text ∷ [] }
+of_ran c s r Answered = record (ran_silently (untold c (seeing c r.view (talked_in r s))) r) { answer = output c r.text ∷ [] }
 of_ran c s r Closed = record (ran_silently (without c (talked_in r s)) r) { closes = c ∷ [] }
 of_ran c s r Killed = record (ran_silently (without_all s) r) { closes = numbers_of s.clients; ended = true }
-of_ran c s r (Waits mask) = ran_silently (seeing c r.tags (waiting c (Some mask) (talked_in r s))) r
+of_ran c s r (Waits mask) = ran_silently (untold c (seeing c r.view (waiting c (Some mask) (talked_in r s)))) r
 
 abbrev pub runs : ℕ → State → Ran → Acted
 runs c s r = of_ran c s r r.ending

@@ -18,32 +18,39 @@ use Rattle.machine_core.specs.Reports.{when_fed, when_ended, when_broken}
 use Rattle.machine_core.specs.Scanning.{when_found, when_scanned}
 use Rattle.state_codec.specs.declared.op.Op.{Op}
 use Rattle.daemon_core.specs.Pending.{Moment, with_news}
-use Rattle.daemon_core.specs.Run.{Spent, ran, unspent}
+use Rattle.daemon_core.specs.Run.{Asker, Spent, asker, ran, unspent}
 use Rattle.daemon_core.specs.Session.{Acted, nothing, happened, output, without, waiting, runs}
-use Rattle.daemon_core.specs.Seen.{tags_seen, unmasked}
-use Rattle.daemon_core.specs.State.{State, clocked, with_clients, with_masks, with_messages}
+use Rattle.daemon_core.specs.Seen.{view_of, unviewed}
+use Rattle.daemon_core.specs.Pictures.{pictured_where, told_for, unpictured}
+use Rattle.daemon_core.specs.State.{State, clocked, with_clients, with_views, with_messages, with_pictures}
 use Rattle.daemon_core.specs.declared.event.Event.{Event}
 use Rattle.daemon_core.specs.declared.event.Event.TheVariants as events
 use Rattle.daemon_core.specs.declared.outcome.Output.{Output}
+use Rattle.daemon_core.specs.declared.picture.PictureTold.{PictureTold}
 
 -- a client that was not connected is, with nothing pending, and is greeted
 abbrev pub connects_client : ℕ → State → Option Watched → Acted
 connects_client c s (Some w) = nothing s
 connects_client c s None =
-    record (nothing (with_messages (with_masks (with_clients s (joined s.clients c)) (unmasked s.masks c)) (forgotten s.messages c))) {
+    record (nothing (with_pictures (with_messages (with_views (with_clients s (joined s.clients c)) (unviewed s.views c))
+    (forgotten s.messages c)) (unpictured s.pictures c))) {
       answer = output c greeting ∷ [];
       connected = Some c;
     }
 
 -- what the first command of a request of this client begins with
 abbrev pub begun : ℕ → State → Spent
-begun c s = unspent s.machine (tags_seen s.masks c) s.messages
+begun c s = unspent s.machine (view_of s.views c) s.messages
+
+-- this client, with what was read for it
+abbrev pub asking : ℕ → State → Asker
+asking c s = asker c (told_for s.pictures c)
 
 -- A client that does not wait: `noidle` is nothing to it, a line is a request of one command, a list one of several.
 abbrev pub asked : ℕ → Option ℕ → State → Request → Acted
-asked c refused s (Single line) = runs c s (ran c Alone [] refused 0 (begun c s) (line ∷ []) s.machine)
-asked c refused s (CommandList lines) = runs c s (ran c InList [] refused 0 (begun c s) lines s.machine)
-asked c refused s (OkList lines) = runs c s (ran c InList list_ok refused 0 (begun c s) lines s.machine)
+asked c refused s (Single line) = runs c s (ran (asking c s) Alone [] refused 0 (begun c s) (line ∷ []) s.machine)
+asked c refused s (CommandList lines) = runs c s (ran (asking c s) InList [] refused 0 (begun c s) lines s.machine)
+asked c refused s (OkList lines) = runs c s (ran (asking c s) InList list_ok refused 0 (begun c s) lines s.machine)
 asked c refused s Noidle = nothing s
 
 -- A client that waits: `noidle` ends its waiting, and anything else closes it without a byte.
@@ -69,6 +76,10 @@ abbrev pub waiting_of : Option Watched → Option (Option Subsystems)
 waiting_of None = None
 waiting_of (Some w) = Some w.waiting
 
+-- a picture was read for a client that is connected: its next request may tell it
+abbrev pub reads_picture : ℕ → PictureTold → State → State
+reads_picture c told s = with_pictures s (pictured_where (watched s.clients c) s.pictures c told)
+
 -- What an event does, where memory is refused at one of its commands or at none.
 abbrev pub acted : State → Event → Option ℕ → Acted
 acted s (events.Connect c) refused = connects_client c s (watched s.clients c)
@@ -82,6 +93,7 @@ acted s (events.ScanDone job) refused = happened s (when_scanned job s.machine)
 acted s (events.Clock time) refused = nothing (clocked time s)
 acted s (events.Keep ticket) refused = happened s (when_kept ticket s.machine)
 acted s (events.Resume plays) refused = happened s (when_resumed plays s.machine)
+acted s (events.Picture c told) refused = nothing (reads_picture c told s)
 
 abbrev pub line_if : Bool → Subsystem → List ℕ
 line_if true x = changed_line x

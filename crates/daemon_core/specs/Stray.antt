@@ -38,6 +38,7 @@ is_stray s (events.ScanDone job) = is_over job s.machine.job
 is_stray s (events.Clock time) = false
 is_stray s (events.Keep ticket) = is_late ticket s.machine.player
 is_stray s (events.Resume plays) = not (s.machine.player.ticket == 0)
+is_stray s (events.Picture c told) = is_none (watched s.clients c)
 
 -- the state stays, and nothing is given out
 abbrev pub stays : State → Stepped

@@ -11,9 +11,9 @@ use Rattle.machine_core.specs.Reports.{when_broken, when_ended}
 use Rattle.machine_core.specs.Scanning.{is_running, kept_changes, telling}
 use Rattle.machine_core.specs.State.{MachineState}
 use Rattle.state_codec.specs.declared.op.Op.{Op}
-use Rattle.daemon_core.specs.Run.{Did, Goes, Refuses, Ends, attempted, is_refused_at, Spent, spent_behind, spent_on}
+use Rattle.daemon_core.specs.Run.{Asker, Did, Goes, Refuses, Ends, attempted, is_refused_at, Spent, spent_behind, spent_on}
 use Rattle.daemon_core.specs.State.{State}
-use Rattle.daemon_core.specs.Step.{begun, waiting_of}
+use Rattle.daemon_core.specs.Step.{asking, begun, waiting_of}
 use Rattle.daemon_core.specs.declared.event.Event.{Event}
 use Rattle.daemon_core.specs.declared.event.Event.TheVariants as events
 
@@ -25,21 +25,21 @@ CommandLeaves behind m Rest (Ends ending) = Unit {0}
 
 -- The commands from this index on, up to the first that is refused, is refused memory or ends the request: each leaves the saved half as
 -- it finds it.
-unfoldable pub CommandsLeave : ℕ → Place → Option ℕ → ℕ → Spent → List (List ℕ) → MachineState → Type 0
+unfoldable pub CommandsLeave : Asker → Place → Option ℕ → ℕ → Spent → List (List ℕ) → MachineState → Type 0
 CommandsLeave c place refused index spent [] m = Unit {0}
 CommandsLeave c place refused index spent (line ∷ lines) m =
     is_refused_at refused index ≡ false
     → CommandLeaves (spent_behind place line m spent) m (λ spent after. CommandsLeave c place refused (suc index) spent lines after)
     (attempted c place spent line m)
 
-abbrev pub RequestLeaves : ℕ → Option ℕ → Spent → MachineState → Request → Type 0
+abbrev pub RequestLeaves : Asker → Option ℕ → Spent → MachineState → Request → Type 0
 RequestLeaves c refused spent m (Single line) = CommandsLeave c Alone refused 0 spent (line ∷ []) m
 RequestLeaves c refused spent m (CommandList lines) = CommandsLeave c InList refused 0 spent lines m
 RequestLeaves c refused spent m (OkList lines) = CommandsLeave c InList refused 0 spent lines m
 RequestLeaves c refused spent m Noidle = Unit {0}
 
 -- no command is run of a client that isn't connected, or waits
-abbrev pub AskedLeaves : ℕ → Option ℕ → Spent → MachineState → Request → Option (Option Subsystems) → Type 0
+abbrev pub AskedLeaves : Asker → Option ℕ → Spent → MachineState → Request → Option (Option Subsystems) → Type 0
 AskedLeaves c refused spent m request None = Unit {0}
 AskedLeaves c refused spent m request (Some None) = RequestLeaves c refused spent m request
 AskedLeaves c refused spent m request (Some (Some mask)) = Unit {0}
@@ -50,7 +50,7 @@ AskedLeaves c refused spent m request (Some (Some mask)) = Unit {0}
 abbrev pub LeavesSaved : State → Event → Option ℕ → Type 0
 LeavesSaved s (events.Connect c) refused = Unit {0}
 LeavesSaved s (events.Request c request) refused =
-    AskedLeaves c refused (begun c s) s.machine request (waiting_of (watched s.clients c))
+    AskedLeaves (asking c s) refused (begun c s) s.machine request (waiting_of (watched s.clients c))
 LeavesSaved s (events.Gone c) refused = Unit {0}
 LeavesSaved s (events.Fed ticket frames) refused = Unit {0}
 LeavesSaved s (events.Ended ticket) refused = (kept_event s.machine (when_ended ticket s.machine)).after.saved ≡ s.machine.saved
@@ -62,3 +62,4 @@ LeavesSaved s (events.ScanDone job) refused = Unit {0}
 LeavesSaved s (events.Clock time) refused = Unit {0}
 LeavesSaved s (events.Keep ticket) refused = (when_kept ticket s.machine).after.saved ≡ s.machine.saved
 LeavesSaved s (events.Resume plays) refused = Unit {0}
+LeavesSaved s (events.Picture c told) refused = Unit {0}

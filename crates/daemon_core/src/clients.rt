@@ -11,6 +11,7 @@ ghost use Rattle.daemon_core.specs.Session.{numbers_of};
 use crate::handled::Handled;
 use crate::outcome::{Bytes, Output};
 use crate::parts::CoreParts;
+use crate::picture::PictureTold;
 use crate::room::Room;
 use crate::tell::tell_all;
 use command_text::{write_greeting, write_ok};
@@ -40,10 +41,11 @@ impl CoreParts {
     ghost use Rattle.idle_masks.specs.Watched.{watched, left, with_waiting, reports_of, after_reports};
     ghost use Rattle.daemon_core.specs.Pending.{with_news};
     ghost use Rattle.std.specs.Prelude.{Some};
+    ghost use Rattle.daemon_core.specs.Pictures.{pictures_without};
     ghost use Rattle.daemon_core.specs.Room.{CanCloseAll, IsReadyToTell};
-    ghost use Rattle.daemon_core.specs.Seen.{masks_without};
+    ghost use Rattle.daemon_core.specs.Seen.{views_without};
     ghost use Rattle.daemon_core.specs.Session.{messages_without, nothing, without};
-    ghost use Rattle.daemon_core.specs.Step.{connects_client, told_to, waits_no_more};
+    ghost use Rattle.daemon_core.specs.Step.{connects_client, reads_picture, told_to, waits_no_more};
     ghost use Rattle.daemon_core.specs.declared.outcome.Ending.TheVariants.{Waits};
 
     // A client connects: one that was not connected is greeted.
@@ -64,29 +66,53 @@ impl CoreParts {
         if self.watch.join(client).is_err() {
             return Err(NoMemory);
         }
-        self.masks.forget(client);
+        self.views.forget(client);
         self.talks.forget(client);
+        self.pictures.forget(client);
         Ok(handled)
     }
 
     // A client is connected no more, if it was.
     pub(crate) fn leave(&mut self, client: ClientId)
         ensures watch { self.new.watch ≡ left self.old.watch client }
-        ensures masks { self.new.masks.list.items ≡ masks_without (watched self.old.watch client) self.old.masks.list.items client }
+        ensures views { self.new.views.list.items ≡ views_without (watched self.old.watch client) self.old.views.list.items client }
         ensures messages { self.new.talks.messages
             ≡ messages_without (watched self.old.watch client) self.old.talks.messages client }
+        ensures pictures { self.new.pictures.list.items
+            ≡ pictures_without (watched self.old.watch client) self.old.pictures.list.items client }
         ensures notified { self.new.talks.notified ≡ self.old.talks.notified }
         ensures machine { self.new.machine ≡ self.old.machine }
         ensures room { self.new.room ≡ self.old.room }
     {
         match self.watch.leave(client) {
             Ok(()) => {
-                self.masks.forget(client);
+                self.views.forget(client);
                 self.talks.forget(client);
+                self.pictures.forget(client);
             }
             // It was not connected.
             Err(_) => {}
         }
+    }
+
+    // A picture was read for a client. Of one that isn't connected nothing is kept.
+    pub(crate) fn read_picture(
+        &mut self,
+        alloc: Global,
+        client: ClientId,
+        told: PictureTold,
+    ) -> Result<Handled, NoMemory>
+        requires ready { IsReadyToTell self.old }
+        requires fresh { self.old.talks.notified.items ≡ [] }
+        ensures ok { IfOk result (Does (nothing (reads_picture client told (state_of self.old))) self.new) }
+        ensures err { OnErr result (state_of self.new ≡ state_of self.old) }
+    {
+        if self.watch.get(client).is_none() {
+            return Ok(Handled::nothing(alloc));
+        }
+        self.pictures.make_room()?;
+        self.pictures.set(client, told);
+        Ok(Handled::nothing(alloc))
     }
 
     // A client's connection has ended.
@@ -130,8 +156,9 @@ impl CoreParts {
     pub(crate) fn wait(&mut self, client: ClientId, mask: Subsystems)
         requires { IsSome (watched self.old.watch client) }
         ensures watch { self.new.watch ≡ with_waiting self.old.watch client (Some mask) }
-        ensures masks { self.new.masks ≡ self.old.masks }
+        ensures views { self.new.views ≡ self.old.views }
         ensures talks { self.new.talks ≡ self.old.talks }
+        ensures pictures { self.new.pictures ≡ self.old.pictures }
         ensures machine { self.new.machine ≡ self.old.machine }
         ensures room { self.new.room ≡ self.old.room }
     {
@@ -145,8 +172,9 @@ impl CoreParts {
         requires empty { closes.old.items ≡ [] }
         requires room { length self.old.watch ≤ vec_capacity closes.old }
         ensures watch { self.new.watch ≡ [] }
-        ensures masks { self.new.masks.list.items ≡ [] }
+        ensures views { self.new.views.list.items ≡ [] }
         ensures messages { self.new.talks.messages ≡ [] }
+        ensures pictures { self.new.pictures.list.items ≡ [] }
         ensures notified { self.new.talks.notified ≡ self.old.talks.notified }
         ensures machine { self.new.machine ≡ self.old.machine }
         ensures room { self.new.room ≡ self.old.room }
@@ -154,8 +182,9 @@ impl CoreParts {
     {
         close_each(self.watch.as_slice(), closes);
         self.watch.clear();
-        self.masks.clear();
+        self.views.clear();
         self.talks.forget_all();
+        self.pictures.clear();
     }
 
     // What changed is pending for each client, and those that wait for it are told, behind the answer.
@@ -170,8 +199,9 @@ impl CoreParts {
         ensures outputs { result.items
             ≡ answer.items ++ map told_to (reports_of (with_news changed self.old.talks.notified.items self.old.watch)) }
         ensures watch { self.new.watch ≡ after_reports (with_news changed self.old.talks.notified.items self.old.watch) }
-        ensures masks { self.new.masks ≡ self.old.masks }
+        ensures views { self.new.views ≡ self.old.views }
         ensures talks { self.new.talks ≡ self.old.talks }
+        ensures pictures { self.new.pictures ≡ self.old.pictures }
         ensures machine { self.new.machine ≡ self.old.machine }
     {
         let notified = self.talks.notified.as_slice();

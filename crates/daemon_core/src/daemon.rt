@@ -4,11 +4,13 @@ ghost use Rattle.player_core.specs.declared.playing.PlayState.{PlayState};
 ghost use Rattle.player_core.specs.declared.order.Order.{Order as PlayOrder};
 ghost use Rattle.daemon_core.specs.State.{start};
 
-use crate::masks::Masks;
 use crate::parts::CoreParts;
+use crate::pictures::Pictures;
 use crate::room::Room;
 use crate::talk::Talks;
+use crate::views::Views;
 use crate::watching::Watching;
+use idle_masks::ClientId;
 use machine_core::Machine;
 use no_memory::NoMemory;
 use player_core::{Order, PlayState};
@@ -35,6 +37,7 @@ impl Model for Core {
 
 impl Core {
     ghost use Rattle.daemon_core.specs.Orders.{play_order, scan_order};
+    ghost use Rattle.daemon_core.specs.Seen.{view_of};
 
     /// A daemon that begins with what was saved: no client is connected. It takes no memory yet.
     pub fn new(alloc: Global, saved: Saved) -> Self
@@ -44,8 +47,9 @@ impl Core {
             parts: CoreParts {
                 machine: Machine::new(alloc, saved),
                 watch: Watching::new(alloc),
-                masks: Masks::new(alloc),
+                views: Views::new(alloc),
                 talks: Talks::new(alloc),
+                pictures: Pictures::new(alloc),
                 room: Room::new(alloc),
             },
         }
@@ -104,6 +108,13 @@ impl Core {
             PlayState::Play => true,
             PlayState::Stop | PlayState::Pause => false,
         }
+    }
+
+    /// How many bytes of a picture an answer to a client may have. It takes no memory.
+    pub fn chunk_limit(&self, client: ClientId) -> u32
+        ensures { result ≡ (view_of self.now.views client).limit }
+    {
+        self.parts.views.seen_by(client).limit
     }
 
     /// The number of the job that runs, if one does: that of `scan_order`. It takes no memory.

@@ -1,4 +1,5 @@
 // The events of the one history: what clients, the player's output, the scan and a clock brought, in the order in which they are handled.
+use crate::picture::PictureTold;
 use command_text::Request;
 use idle_masks::ClientId;
 use machine_core::ClockTime;
@@ -30,4 +31,6 @@ pub enum Event {
     Keep { ticket: u64 },
     /// The player goes on from where it was kept: a song that played plays on, or is paused.
     Resume { plays: bool },
+    /// This was read of a picture for a client: it comes right before the request that asks for it.
+    Picture(ClientId, PictureTold),
 }

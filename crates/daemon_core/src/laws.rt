@@ -1,18 +1,22 @@
 //! Laws of the definitions, for the layers above: a call brings its clauses into their proofs.
-ghost use Rattle.std.specs.Prelude.{◌≡◌, ◌≢◌, ◌⊎◌, ◌≤◌, ◌∷◌, ℕ, Bool, List, [], Option, None, true, false, IfSome};
+ghost use Rattle.std.specs.Prelude.{◌≡◌, ◌≢◌, ◌⊎◌, ◌≤◌, ◌∷◌, ℕ, Bool, List, [], Option, Some, None, true, false, IfSome, IsSome};
 ghost use Rattle.std.specs.List.{AllByRecursion};
 ghost use Rattle.daemon_core.specs.Kill.{ends_daemon};
 ghost use Rattle.daemon_core.specs.Leaving.{missing, still_there, there, ClosesNoOther};
+ghost use Rattle.daemon_core.specs.Pictures.{told_for};
 ghost use Rattle.daemon_core.specs.Quiet.{is_quiet, NobodyIsDue};
 ghost use Rattle.daemon_core.specs.Replay.{Entry, stepped, replay, moments, reply};
 ghost use Rattle.daemon_core.specs.Running.{has_song, AreConnected};
 ghost use Rattle.daemon_core.specs.Session.{numbers_of};
 ghost use Rattle.daemon_core.specs.State.{State, clocked};
-ghost use Rattle.daemon_core.specs.Step.{Stepped, step};
+ghost use Rattle.daemon_core.specs.Step.{Stepped, is_noidle, reads_picture, step};
 ghost use Rattle.daemon_core.specs.Stray.{is_stray, stays};
 ghost use Rattle.daemon_core.specs.Unchanged.{LeavesSaved};
 ghost use Rattle.daemon_core.specs.declared.event.Event.{Event};
 ghost use Rattle.daemon_core.specs.declared.event.Event.TheVariants as events;
+ghost use Rattle.daemon_core.specs.declared.picture.PictureTold.{PictureTold};
+ghost use Rattle.idle_masks.specs.Watched.{watched};
+ghost use Rattle.command_text.specs.declared.request.Request.{Request};
 ghost use Rattle.machine_core.specs.Keeping.{when_resumed};
 ghost use Rattle.machine_core.specs.Looks.{max_looks};
 ghost use Rattle.machine_core.specs.Restart.{GoesOnAs, HasSoundPlace};
@@ -66,6 +70,19 @@ pub fn stray_events_do_nothing()
 pub fn a_clock_tells_the_time_alone()
     ensures { (kept : SavedState) (history : List Entry) (time : ClockTime) (refused : Option ℕ)
         → step (replay kept history) (events.Clock time) refused ≡ stays (clocked time (replay kept history)) }
+{}
+
+/// What was read of a picture for a connected client is kept for it alone, in the place of what was read before, and nothing else comes of
+/// it. The next lines that the client asks use it up, whether they tell it or not.
+pub fn a_picture_is_told_once()
+    ensures silent { (kept : SavedState) (history : List Entry) (c : ℕ) (told : PictureTold) (refused : Option ℕ)
+        → step (replay kept history) (events.Picture c told) refused ≡ stays (reads_picture c told (replay kept history)) }
+    ensures read { (s : State) (c : ℕ) (told : PictureTold) → IsSome (watched s.clients c)
+        → told_for (reads_picture c told s).pictures c ≡ Some told }
+    ensures other { (s : State) (c d : ℕ) (told : PictureTold) → c ≢ d
+        → told_for (reads_picture c told s).pictures d ≡ told_for s.pictures d }
+    ensures used { (s : State) (c : ℕ) (request : Request) (refused : Option ℕ) → IsSome (watched s.clients c)
+        → is_noidle request ≡ false → told_for (step s (events.Request c request) refused).after.pictures c ≡ None }
 {}
 
 /// After any history an event closes those that were connected before it, didn't go by themselves and aren't connected after it,

@@ -1,9 +1,10 @@
 // What a core is made of. Its methods see the parts, and those above it the state that they stand for.
 ghost use Rattle.std.specs.Prelude.{◌≡◌};
 
-use crate::masks::Masks;
+use crate::pictures::Pictures;
 use crate::room::Room;
 use crate::talk::Talks;
+use crate::views::Views;
 use crate::watching::Watching;
 use machine_core::Machine;
 use no_memory::NoMemory;
@@ -13,8 +14,9 @@ use std::alloc::Global;
 pub struct CoreParts {
     pub(crate) machine: Machine,
     pub(crate) watch: Watching,
-    pub(crate) masks: Masks,
+    pub(crate) views: Views,
     pub(crate) talks: Talks,
+    pub(crate) pictures: Pictures,
     // Memory for what the clients are told, kept from event to event.
     pub(crate) room: Room,
 }
@@ -29,8 +31,9 @@ impl CoreParts {
         ensures closes { OnOk result (CanCloseAll self.new) }
         ensures machine { self.new.machine ≡ self.old.machine }
         ensures watch { self.new.watch ≡ self.old.watch }
-        ensures masks { self.new.masks ≡ self.old.masks }
+        ensures views { self.new.views ≡ self.old.views }
         ensures talks { self.new.talks ≡ self.old.talks }
+        ensures pictures { self.new.pictures ≡ self.old.pictures }
     {
         self.room.take(alloc, self.watch.len())
     }

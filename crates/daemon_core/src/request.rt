@@ -1,9 +1,9 @@
 // The commands of a request, one after the other, and how it ends.
-ghost use Rattle.std.specs.Prelude.{◌≡◌, ◌<◌, ◌^◌, true, length};
-ghost use Rattle.daemon_core.specs.Request.{stop_of_reading, looks_at_end, tags_at_end, CountsLooks, SeesTags, RunsLine, RunsLines};
+ghost use Rattle.std.specs.Prelude.{◌≡◌, ◌<◌, ◌^◌, true, length, option_copied};
+ghost use Rattle.daemon_core.specs.Request.{stop_of_reading, looks_at_end, view_at_end, CountsLooks, HasView, RunsLine, RunsLines};
 ghost use Rattle.daemon_core.specs.Request.{AnswersStop, RunsCommand};
-ghost use Rattle.daemon_core.specs.Run.{attempted, done_by, ending_of, looks_of_line, performed, separator, spent_of};
-ghost use Rattle.daemon_core.specs.Run.{tags_behind, tags_of_line};
+ghost use Rattle.daemon_core.specs.Run.{asker, attempted, done_by, ending_of, looks_of_line, performed, separator, spent_of};
+ghost use Rattle.daemon_core.specs.Run.{view_of_line};
 ghost use Rattle.daemon_core.specs.Step.{is_noidle};
 ghost use Rattle.machine_core.specs.Looks.{looked, looks_of};
 ghost use Rattle.machine_core.specs.Memory.{takes_memory};
@@ -12,10 +12,13 @@ ghost use Rattle.machine_core.specs.Work.{CanKeepBy, AddsText, HasRoom, ack_room
 use crate::handled::Handled;
 use crate::outcome::{Bytes, Ending, Outcome, Output};
 use crate::parts::CoreParts;
+use crate::picture::PictureTold;
+use crate::pictures::show;
 use crate::talk::Talks;
+use crate::view::View;
 use command_text::{
-    Command, DatabaseCommand, LinesRef, NamedCommand, Place, ReadError, Refusal, Request,
-    SessionCommand, SettingsCommand, TagMask, read_words,
+    Command, LinesRef, NamedCommand, Place, ReadError, Refusal, Request, SessionCommand,
+    SettingsCommand, read_words,
 };
 use idle_masks::{ClientId, Subsystems};
 use machine_core::{Failure, Looks, MAX_LOOKS, Machine, Work};
@@ -55,8 +58,8 @@ pub struct RequestEnd {
     pub(crate) refused_at: Option<u32>,
     // How much its commands looked at.
     pub(crate) looks: u64,
-    // The tags that its client sees behind it.
-    pub(crate) tags: TagMask,
+    // How its client is told behind it.
+    pub(crate) view: View,
 }
 
 // Why a line that wasn't read stops its request.
@@ -116,24 +119,13 @@ fn looks_at_end(refused_at: Option<u32>, looks: &Looks) -> u64
     }
 }
 
-// The tags that the client sees behind a request that ended at a command: those before it where memory was refused.
-fn tags_at_end(refused_at: Option<u32>, before: TagMask, behind: TagMask) -> TagMask
-    ensures { result ≡ tags_at_end refused_at before behind }
+// How the client is told behind a request that ended at a command: those before it where memory was refused.
+fn view_at_end(refused_at: Option<u32>, before: View, behind: View) -> View
+    ensures { result ≡ view_at_end refused_at before behind }
 {
     match refused_at {
         Some(_) => before,
         None => behind,
-    }
-}
-
-// The tags that a client sees behind a command.
-#[tactic(auto, unfolding(crate::specs::Run::tags_behind))]
-fn tags_behind(command: &Command<'_>, tags: TagMask) -> TagMask
-    ensures { result ≡ tags_behind command.now tags }
-{
-    match command {
-        Command::Database(DatabaseCommand::ChangeMask(change)) => tags.changed(*change),
-        _ => tags,
     }
 }
 
@@ -155,7 +147,7 @@ impl CoreParts {
     ghost use Rattle.daemon_core.specs.Outcome.{commands_in};
     ghost use Rattle.daemon_core.specs.Request.{ran_of};
     ghost use Rattle.daemon_core.specs.Session.{of_ran, runs};
-    ghost use Rattle.daemon_core.specs.Step.{begun, requested_by, waiting_of};
+    ghost use Rattle.daemon_core.specs.Step.{asking, begun, requested_by, waiting_of};
     ghost use Rattle.daemon_core.specs.Parts.{state_of};
     ghost use Rattle.daemon_core.specs.Room.{CanCloseAll, IsReadyToTell};
     ghost use Rattle.daemon_core.specs.Run.{ran};
@@ -212,7 +204,7 @@ impl CoreParts {
         requires known { IsSome (watched self.old.watch client) }
         requires fresh { self.old.talks.notified.items ≡ [] }
         ensures ok { IfOk result (λ handled. Does (runs client (state_of self.old)
-            (ran client place (separator separated) handled.outcome.refused_at 0
+            (ran (asking client (state_of self.old)) place (separator separated) handled.outcome.refused_at 0
             (begun client (state_of self.old)) lines.entry self.old.machine)) self.new handled) }
         ensures place { IfOk result (λ handled. IfSome handled.outcome.refused_at (λ k. k < length lines.entry)) }
         ensures err { OnErr result (state_of self.new ≡ state_of self.old) }
@@ -221,8 +213,9 @@ impl CoreParts {
             return Err(NoMemory);
         }
         let outputs = Vec::with_capacity(alloc, 1)?;
-        self.masks.make_room()?;
-        let tags = self.masks.seen_by(client);
+        self.views.make_room()?;
+        let view = self.views.seen_by(client);
+        let told = self.pictures.told_for(client);
         let profile = self.machine.saved().profile();
         let mut work = Work::new(alloc, profile)?;
         let end = run_lines(
@@ -232,7 +225,8 @@ impl CoreParts {
             client,
             place,
             separated,
-            tags,
+            view,
+            told,
             lines,
             &mut work,
         );
@@ -253,7 +247,7 @@ impl CoreParts {
         requires known { IsSome (watched self.old.watch client) }
         requires empty { outputs.items ≡ [] }
         requires one { 0 < vec_capacity outputs }
-        requires mask { vec_len self.old.masks.list < vec_capacity self.old.masks.list }
+        requires mask { vec_len self.old.views.list < vec_capacity self.old.views.list }
         ensures { Does (of_ran client (state_of self.old) (ran_of self.old.machine self.old.talks work end) end.ending) self.new result }
     {
         let RequestEnd {
@@ -261,12 +255,13 @@ impl CoreParts {
             changed,
             refused_at,
             looks,
-            tags,
+            view,
         } = end;
         let Work { text, ops, .. } = work;
         match ending {
             Ending::Answered => {
-                self.masks.set(client, tags);
+                self.views.set(client, view);
+                self.pictures.forget(client);
                 let bytes = Bytes::new(text);
                 outputs.push_reserved(Output { client, bytes });
                 let outcome = Outcome {
@@ -308,7 +303,8 @@ impl CoreParts {
             }
             Ending::Waits(mask) => {
                 self.wait(client, mask);
-                self.masks.set(client, tags);
+                self.views.set(client, view);
+                self.pictures.forget(client);
                 let outcome = Outcome {
                     outputs,
                     closes: Vec::new(alloc),
@@ -331,37 +327,39 @@ fn run_lines(
     client: ClientId,
     place: Place,
     separated: bool,
-    tags: TagMask,
+    view: View,
+    told: Option<&PictureTold>,
     lines: LinesRef<'_>,
     work: &mut Work,
 ) -> RequestEnd
     requires room { HasRoom ack_room work.old }
     requires count { length lines < 2 ^ 32 }
-    ensures { RunsLines client place (separator separated) tags lines.entry machine.old machine.new talks.old talks.new work.old work.new
+    ensures { RunsLines (asker client (option_copied told.entry)) place (separator separated) view lines.entry machine.old machine.new talks.old talks.new work.old work.new
         result }
 {
     let mut changed = Subsystems::none();
     let mut looks = Looks::new();
-    let mut tags = tags;
+    let mut view = view;
     let mut index = 0;
     let mut rest = lines;
     while let Some((line, after)) = rest.split_first() {
-        let before = tags;
+        let before = view;
         match run_line(
-            machine, talks, alloc, client, place, separated, line, work, &mut looks, &mut tags,
+            machine, talks, alloc, client, place, separated, told, line, work, &mut looks,
+            &mut view,
         ) {
             Ok(set) => changed = changed.union(set),
             Err(stop) => {
                 let profile = machine.saved().profile();
                 let (ending, refused_at) = answer_stop(profile, index, line, stop, work);
                 let looks = looks_at_end(refused_at, &looks);
-                let tags = tags_at_end(refused_at, before, tags);
+                let view = view_at_end(refused_at, before, view);
                 return RequestEnd {
                     ending,
                     changed,
                     refused_at,
                     looks,
-                    tags,
+                    view,
                 };
             }
         }
@@ -374,7 +372,7 @@ fn run_lines(
         changed,
         refused_at: None,
         looks: looks.taken(),
-        tags,
+        view,
     }
 }
 
@@ -386,16 +384,17 @@ fn run_line(
     client: ClientId,
     place: Place,
     separated: bool,
+    told: Option<&PictureTold>,
     line: &[u8],
     work: &mut Work,
     looks: &mut Looks,
-    tags: &mut TagMask,
+    view: &mut View,
 ) -> Result<Subsystems, Stop>
     requires { HasRoom ack_room work.old }
     ensures runs { RunsLine (separator separated)
-        (attempted client place (spent_of work.old.size looks.old tags.old talks.old.messages) line.now machine.old)
+        (attempted (asker client (option_copied told.entry)) place (spent_of work.old.size looks.old view.old talks.old.messages) line.now machine.old)
         machine.old machine.new talks.old talks.new work.old work.new result }
-    ensures tags { SeesTags (tags_of_line place line.now machine.old tags.old) tags.new result }
+    ensures view { HasView (view_of_line place line.now machine.old view.old) view.new result }
     ensures looks { CountsLooks (looked looks.old (looks_of_line place line.now machine.old)) looks.new result }
 {
     let profile = machine.saved().profile();
@@ -408,10 +407,10 @@ fn run_line(
     };
     match Command::read(alloc, profile, place, words.as_slice()) {
         Ok(command) => {
-            let before = *tags;
-            *tags = tags_behind(&command.command, before);
+            let before = *view;
+            *view = before.behind(&command.command);
             run_command(
-                machine, talks, alloc, client, separated, before, command, work, looks,
+                machine, talks, alloc, client, separated, before, told, command, work, looks,
             )
         }
         Err(error) => Err(stop_of_reading(error)),
@@ -425,7 +424,8 @@ fn run_command(
     alloc: Global,
     client: ClientId,
     separated: bool,
-    tags: TagMask,
+    view: View,
+    told: Option<&PictureTold>,
     command: NamedCommand<'_>,
     work: &mut Work,
     looks: &mut Looks,
@@ -433,7 +433,7 @@ fn run_command(
     requires room { HasRoom command_room work.old }
     requires keeps { CanKeepBy machine.old.saved.profile work.old }
     ensures ran { RunsLine (separator separated)
-        (performed client (spent_of work.old.size looks.old tags talks.old.messages) command.entry machine.old)
+        (performed (asker client (option_copied told.entry)) (spent_of work.old.size looks.old view talks.old.messages) command.entry machine.old)
         machine.old machine.new talks.old talks.new work.old work.new result }
     ensures looks { looks.new ≡ looked looks.old (looks_of command.entry.command machine.old) }
     ensures memory { result ≡ Err Stop.NoMemory → takes_memory command.entry.command machine.old ≡ true }
@@ -446,7 +446,9 @@ fn run_command(
         }
         None => {}
     }
-    match perform(machine, talks, alloc, client, tags, command, work, looks) {
+    match perform(
+        machine, talks, alloc, client, view, told, command, work, looks,
+    ) {
         Ok(changed) => {
             separate(separated, work);
             Ok(changed)
@@ -456,14 +458,15 @@ fn run_command(
     }
 }
 
-// A command that doesn't end its request: the daemon performs those of messages, the machine any other.
-#[tactic(auto, unfolding(crate::specs::Run::done_by))]
+// A command that doesn't end its request: the daemon performs those of messages and of pictures, the machine any other.
+#[tactic(auto, unfolding(crate::specs::Run::done_by, crate::specs::Run::own_of))]
 fn perform(
     machine: &mut Machine,
     talks: &mut Talks,
     alloc: Global,
     client: ClientId,
-    tags: TagMask,
+    view: View,
+    told: Option<&PictureTold>,
     command: Command<'_>,
     work: &mut Work,
     looks: &mut Looks,
@@ -471,14 +474,20 @@ fn perform(
     requires room { HasRoom command_room work.old }
     requires keeps { CanKeepBy machine.old.saved.profile work.old }
     ensures ran { RunsCommand
-        (done_by client (spent_of work.old.size looks.old tags talks.old.messages) command.entry machine.old)
+        (done_by (asker client (option_copied told.entry)) (spent_of work.old.size looks.old view talks.old.messages) command.entry machine.old)
         machine.old machine.new talks.old talks.new work.old work.new result }
     ensures looks { looks.new ≡ looked looks.old (looks_of command.entry machine.old) }
     ensures memory { result ≡ Err Failure.NoMemory → takes_memory command.entry machine.old ≡ true }
 {
     match command {
         Command::Messages(command) => talks.perform(alloc, client, command, work),
-        command => machine.perform(alloc, tags, command, work, looks),
+        Command::Pictures(command) => {
+            match show(view.limit, told, machine.saved().songs(), command, work) {
+                Ok(()) => Ok(Subsystems::none()),
+                Err(failure) => Err(failure),
+            }
+        }
+        command => machine.perform(alloc, view.tags, command, work, looks),
     }
 }
 

@@ -69,6 +69,7 @@ impl CoreParts {
                 let happened = self.machine.resume(alloc, plays)?;
                 Ok(Handled::happened(alloc, happened))
             }
+            Event::Picture(client, told) => self.read_picture(alloc, client, told),
         }
     }
 }

@@ -1,5 +1,6 @@
 //! The events of a state, as lines of the input say them.
 use crate::fault::Fault;
+use crate::picture::picture_of;
 use crate::rows::batch_of;
 use crate::words::{first_number, first_word, number};
 use command_text::{Line, Lines, Request};
@@ -68,6 +69,7 @@ pub fn event_of(alloc: Global, collected: &mut Vec<RowChange>, text: &str) -> Re
         "clock" => Ok(Event::Clock(clock_of(first, rest)?)),
         "keep" => Ok(Event::Keep { ticket: first }),
         "resume" => Ok(Event::Resume { plays: first == 1 }),
+        "picture" => Ok(Event::Picture(first, picture_of(alloc, rest)?)),
         _ => Err(Fault::NoDirective),
     }
 }

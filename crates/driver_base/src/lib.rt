@@ -14,6 +14,7 @@ pub mod file;
 mod given;
 mod journal;
 pub mod lines;
+mod picture;
 pub mod printer;
 pub mod rows;
 pub mod shown;

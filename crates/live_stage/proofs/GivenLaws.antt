@@ -137,6 +137,7 @@ step_profile law s (events.ScanDone job) refused = scanned_profile job s.machine
 step_profile law s (events.Clock time) refused = refl
 step_profile law s (events.Keep ticket) refused = kept_profile ticket s.machine
 step_profile law s (events.Resume plays) refused = resumed_profile plays s.machine
+step_profile law s (events.Picture c told) refused = refl
 
 -- nor does a history
 pub history_profile : (law : CommandsRebuild) (s : State) (history : List Entry)

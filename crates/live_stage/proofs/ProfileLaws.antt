@@ -15,8 +15,8 @@ use Rattle.state_codec.specs.Fields.{Field}
 use Rattle.state_codec.specs.Layout.{layout_of, written_layout, profile_of}
 use Rattle.state_codec.specs.Ops.{IsKeptOp}
 use Rattle.state_codec.specs.Reading.{in_bytes, ops_reading, saved_reading}
-use Rattle.state_codec.specs.ReadingPlace.{place_at}
 use Rattle.state_codec.specs.ReadingSaved.{before_fields, entries_at, header_at, lists_at, parts_at, saved_at, songs_at, stickers_at}
+use Rattle.state_codec.specs.ReadingTimes.{fields_at}
 use Rattle.state_codec.specs.SavedState.{SavedState, widened_from}
 use Rattle.state_codec.specs.Sealed.{unsealed}
 use Rattle.state_codec.specs.Steps.{◌>>=◌}
@@ -92,8 +92,8 @@ fields_profile : (p q : Profile) (field : Field SavedState) (x : SavedState × L
 fields_profile Named q field x has e = has x e
 fields_profile Wide q field x has e =
     let parts = bind_ok field _ x e in
-    let place = bind_ok (place_at parts.0.1) _ x parts.2 in
-    sym (ap (λ (y : SavedState × List ℕ). y.0.profile) (ok_is _ x place.2)) ∙ has parts.0 parts.1
+    let fields = bind_ok (fields_at parts.0.1) _ x parts.2 in
+    sym (ap (λ (y : SavedState × List ℕ). y.0.profile) (ok_is _ x fields.2)) ∙ has parts.0 parts.1
 
 state_at_profile : (number : ℕ) (bytes : List ℕ) (x : SavedState × List ℕ) → saved_at (layout_of number) bytes ≡ Ok x
     → x.0.profile ≡ profile_of number

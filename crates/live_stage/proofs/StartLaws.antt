@@ -212,6 +212,17 @@ only_a_fault e snapshot s spelled good one too_long is =
     let short : length (saved_bytes s) ≤ longest_snapshot s.profile = snapshot_len s good in
     fault_of_create e one (λ t. let too = too_long t in omega (arith, too, ap length spelled, short, within_length s.profile)) is
 
+-- a journal that was not made over files that have bytes
+pub only_not_empty : (e : JournalError) → start_error e ≡ NotEmpty → e ≡ journal.NotEmpty
+only_not_empty journal.NotEmpty is = refl
+only_not_empty journal.NoJournal is = cc
+only_not_empty (journal.Damaged offset) is = cc
+only_not_empty journal.DiskFault is = cc
+only_not_empty journal.NoMemory is = cc
+only_not_empty journal.TooLong is = cc
+only_not_empty journal.NumbersSpent is = cc
+only_not_empty journal.OldLayout is = cc
+
 -- ---- the phases of an opening
 
 -- up to its middle a restart finds what it might have found before

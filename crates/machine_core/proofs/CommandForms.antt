@@ -113,6 +113,7 @@ is_commanded (kinds.List op) = true
 is_commanded (kinds.Sticker op) = true
 is_commanded (kinds.Batch changes) = false
 is_commanded (kinds.Place op) = false
+is_commanded (kinds.Timed seconds) = false
 
 -- The forms: lines alone; an op that a command may make, that isn't refused and changes something; the songs of the queue in
 -- place of a playlist's; several ops of playlists that together change them; a range of the queue that is shuffled around a song, or where
@@ -337,5 +338,6 @@ module _ (Q : MachineState → Meaning → Type 0) (of : OfForms Q) where
   command_so mask (topics.Stickers command) m = stickers_so command m
   command_so mask (topics.Playing command) m = playing_so mask command m
   command_so mask (topics.Messages command) m = says_so [] m
+  command_so mask (topics.Pictures command) m = says_so [] m
   command_so mask (topics.Session command) m = says_so [] m
   command_so mask (topics.Setup command) m = says_so (setup_lines command) m

@@ -18,14 +18,16 @@ use Rattle.stickers.specs.Find.{is_found, uri_and_value, passes, passing, found_
 use Rattle.stickers.specs.Sticker.{Sticker}
 use Rattle.stickers.specs.declared.find.ValueTest.{ValueTest}
 use Rattle.stored_lists.specs.Lists.{Stored}
+use Rattle.stored_lists.specs.Times.{Times}
 use Rattle.machine_core.specs.Database.{content_lines, folder_info, root_lists}
 use Rattle.machine_core.specs.Lent.{lent}
 use Rattle.machine_core.specs.State.{MachineState}
 use Rattle.machine_core.specs.Stickers.{found_below}
 
-same_lists : (profile : Profile) (lists : Stored) (a b : Bor (List ℕ)) → root_lists profile lists (At a) ≡ root_lists profile lists (At b)
-same_lists Named lists a b = refl
-same_lists Wide lists a b = refl
+same_lists : (profile : Profile) (times : Option Times) (lists : Stored) (a b : Bor (List ℕ))
+    → root_lists profile times lists (At a) ≡ root_lists profile times lists (At b)
+same_lists Named times lists a b = refl
+same_lists Wide times lists a b = refl
 
 same_content : (mask : TagMask) (profile : Profile) (songs : List Row) (path : Bor (List ℕ))
     → content_lines mask profile songs (At (lent path.now)) ≡ content_lines mask profile songs (At path)
@@ -41,8 +43,8 @@ same_folder_info mask path s = by_cases (bytes_eq path.now [] || bytes_eq path.n
   by_cases false is =
       rw is (ap (λ (lists : List ℕ). if is_folder s.songs (At path) then Ok (content_lines mask s.profile s.songs (At
       (lent path.now)) ++ lists)
-      else Err NoSuchUri) (same_lists s.profile s.lists (lent path.now) path)
-      ∙ ap (λ (lines : List ℕ). if is_folder s.songs (At path) then Ok (lines ++ root_lists s.profile s.lists (At path)) else Err NoSuchUri)
+      else Err NoSuchUri) (same_lists s.profile s.changed s.lists (lent path.now) path)
+      ∙ ap (λ (lines : List ℕ). if is_folder s.songs (At path) then Ok (lines ++ root_lists s.profile s.changed s.lists (At path)) else Err NoSuchUri)
       (same_content mask s.profile s.songs path))
 
 pub same_below : (path : Bor (List ℕ)) (name : List ℕ) (test : ValueTest) (m : MachineState)

@@ -9,11 +9,11 @@ use Rattle.player_core.specs.Place.{PlaceState}
 use Rattle.player_core.specs.Player.{PlayerState}
 use Rattle.state_codec.specs.Applied.{refusal_of, changes_nothing, after, after_all, all_applied, applied_from}
 use Rattle.state_codec.specs.Applied.{unless_refused as unless_op_refused}
-use Rattle.state_codec.specs.Laws.{but_place, is_batch, is_place, uses_order}
+use Rattle.state_codec.specs.Laws.{but_kept, is_batch, is_behind, uses_order}
 use Rattle.state_codec.specs.SavedState.{SavedState, IsSavedState}
 use Rattle.state_codec.specs.Steps.{◌>>=◌}
 use Rattle.state_codec.specs.declared.op.Op.{Op}
-use Rattle.state_codec.specs.declared.op.Op.TheVariants.{SetOption, SetVolume, SetOrder, Queue, List as Lists, Sticker, Batch, Place}
+use Rattle.state_codec.specs.declared.op.Op.TheVariants.{SetOption, SetVolume, SetOrder, Queue, List as Lists, Sticker, Batch, Place, Timed}
 use Rattle.state_codec.specs.declared.op.queue_op.QueueOp.{QueueOp}
 use Rattle.state_codec.specs.declared.op.queue_op.QueueOp.TheVariants as queue
 use Rattle.state_codec.proofs.OpsUnchanged.{op_apart, op_refused, op_first}
@@ -30,9 +30,9 @@ use Rattle.machine_core.proofs.CommandForms.{Holds, is_commanded}
 use Rattle.machine_core.proofs.OrderSteps.{IsApart, followed_apart, order_stays}
 use Rattle.machine_core.proofs.SameParts.{lists_decide, stickers_decide, told_apart, told_same}
 
--- What the ops of a command tell of a machine that was saved well; nothing of the player's place alone, which is kept behind them.
+-- What the ops of a command tell of a machine that was saved well; nothing of the player's place and the playlists' times alone, which are kept behind them.
 pub record TellsChanges (m : MachineState) (x : Meaning) : Type 0 where
-  pub none : (place : Option PlaceState) → x.after.saved ≡ but_place place m.saved → x.ops ≡ []
+  pub none : (t : SavedState) → x.after.saved ≡ but_kept t m.saved → x.ops ≡ []
   pub lists : list_any is_of_lists x.ops ≡ not (same_lists m.saved.lists x.after.saved.lists)
   pub stickers : list_any is_of_stickers x.ops ≡ not (same_stickers m.saved.stickers x.after.saved.stickers)
 
@@ -97,12 +97,12 @@ done_rebuilt op None s free = applies op s free
 done_rebuilt op (Some g) s free = applies_behind op s g free
 
 -- it differs where the op changes something
-done_differs : (op : Op) (order : Option ℕ) (place : Option PlaceState) (s : SavedState) → IsApart op order
-    → (after op s ≡ but_place place s → ⊥) → done op order s ≡ but_place place s → ⊥
+done_differs : (op : Op) (order : Option ℕ) (place : SavedState) (s : SavedState) → IsApart op order
+    → (after op s ≡ but_kept place s → ⊥) → done op order s ≡ but_kept place s → ⊥
 done_differs op None place s apart other same = other same
 done_differs op (Some g) place s apart other same =
     let free : uses_order op ≡ false = apart g refl in
-    let moved : with_order g (after op s) ≡ but_place place s = sym (op_first op g s free) ∙ same in
+    let moved : with_order g (after op s) ≡ but_kept place s = sym (op_first op g s free) ∙ same in
     let order : (after op s).order ≡ g = order_stays op s free ∙ sym (ap (λ (t : SavedState). t.order) moved) in
     other (ap (λ (o : ℕ). with_order o (after op s)) order ∙ moved)
 
@@ -116,8 +116,9 @@ batch_apart (Lists op) fits = refl
 batch_apart (Sticker op) fits = refl
 batch_apart (Batch changes) fits = absurd (cc)
 batch_apart (Place op) fits = refl
+batch_apart (Timed seconds) fits = refl
 
-place_apart : (op : Op) → is_commanded op ≡ true → is_place op ≡ false
+place_apart : (op : Op) → is_commanded op ≡ true → is_behind op ≡ false
 place_apart (SetOption setting) fits = refl
 place_apart (SetVolume volume) fits = refl
 place_apart (SetOrder g) fits = refl
@@ -126,6 +127,7 @@ place_apart (Lists op) fits = refl
 place_apart (Sticker op) fits = refl
 place_apart (Batch changes) fits = refl
 place_apart (Place op) fits = absurd (cc)
+place_apart (Timed seconds) fits = absurd (cc)
 
 -- playlists and stickers are those that the op leaves
 done_lists : (op : Op) (order : Option ℕ) (s : SavedState) → IsApart op order → (done op order s).lists ≡ (after op s).lists
@@ -163,17 +165,18 @@ queue_stickers_stay (queue.Swap one other) s = refl
 queue_stickers_stay (queue.Shuffle start end) s = refl
 queue_stickers_stay (queue.Prio priority ranges) s = refl
 
-lists_told : (op : Op) (s : SavedState) → (after op s ≡ s → ⊥) → is_of_lists op ≡ not (same_lists s.lists (after op s).lists)
+lists_told : (op : Op) (s : SavedState) → ((t : SavedState) → after op s ≡ but_kept t s → ⊥) → is_of_lists op ≡ not (same_lists s.lists (after op s).lists)
 lists_told (SetOption setting) s other = same_lists_told s (after (SetOption setting) s) refl
 lists_told (SetVolume volume) s other = same_lists_told s (after (SetVolume volume) s) refl
 lists_told (SetOrder g) s other = same_lists_told s (after (SetOrder g) s) refl
 lists_told (Queue op) s other = same_lists_told s (after (Queue op) s) (queue_lists_stay op s)
 lists_told (Lists op) s other = let t : SavedState = after (Lists op) s in
     sym (told_apart s.lists t.lists _ (lists_decide s.lists t.lists)
-    (λ e. other (ap (λ (l : Stored). record s { lists = l }) (sym e))))
+    (λ e. other t (ap (λ (l : Stored). record t { lists = l }) (sym e))))
 lists_told (Sticker op) s other = same_lists_told s (after (Sticker op) s) refl
 lists_told (Batch changes) s other = same_lists_told s (after (Batch changes) s) refl
 lists_told (Place op) s other = same_lists_told s (after (Place op) s) refl
+lists_told (Timed seconds) s other = same_lists_told s (after (Timed seconds) s) refl
 
 -- the op tells of stickers, unless it is a batch
 stickers_told : (op : Op) (s : SavedState) → is_batch op ≡ false → (after op s ≡ s → ⊥) →
@@ -188,18 +191,19 @@ stickers_told (Sticker op) s fits other = let t : SavedState = after (Sticker op
     (λ e. other (ap (λ (l : List Stuck). record s { stickers = l }) (sym e))))
 stickers_told (Batch changes) s fits other = absurd (cc)
 stickers_told (Place op) s fits other = same_stickers_told s (after (Place op) s) refl
+stickers_told (Timed seconds) s fits other = same_stickers_told s (after (Timed seconds) s) refl
 
 edited_tells : (op : Op) (text : List ℕ) (next : Following) (m : MachineState) → is_commanded op ≡ true → IsApart op next.order →
     refusal_of op m.saved ≡ None → changes_nothing op m.saved ≡ false → IsSavedState m.saved → TellsChanges m (edited op text next m)
 edited_tells op text next m fits apart free changes kept =
     let s : SavedState = m.saved in
     let one : is_batch op ≡ false = batch_apart op fits in
-    let more : (place : Option PlaceState) → after op s ≡ but_place place s → ⊥ = λ place same.
+    let more : (place : SavedState) → after op s ≡ but_kept place s → ⊥ = λ place same.
     let none : changes_nothing op s ≡ true = op_apart op place s kept free one (place_apart op fits) same in cc in
-    let other : after op s ≡ s → ⊥ = λ same. more s.place same in
+    let other : after op s ≡ s → ⊥ = λ same. more s same in
     record {
       none = λ place same. absurd (done_differs op next.order place s apart (more place) same);
-      lists = told_of is_of_lists op next.order (λ g. refl) ∙ lists_told op s other
+      lists = told_of is_of_lists op next.order (λ g. refl) ∙ lists_told op s more
           ∙ ap (λ l. not (same_lists s.lists l)) (sym (done_lists op next.order s apart));
       stickers = told_of is_of_stickers op next.order (λ g. refl) ∙ stickers_told op s one other
           ∙ ap (λ l. not (same_stickers s.stickers l)) (sym (done_stickers op next.order s apart));

@@ -30,7 +30,7 @@ use Rattle.machine_core.specs.Changed.{same_playing, same_state}
 use Rattle.machine_core.specs.Happening.{nothing_happens}
 use Rattle.machine_core.specs.Keeping.{begin_ops, goes_on, if_kept, keep_ops, keeps_place, kept_event, leave_ops, place_ops, put_op}
 use Rattle.machine_core.specs.Keeping.{round_ops, telling_ops, with_ops}
-use Rattle.machine_core.specs.Size.{longest_keep, room_by}
+use Rattle.machine_core.specs.Size.{longest_keep, longest_place, room_by, time_room}
 use Rattle.machine_core.specs.Sound.{IsSound, IsSoundMachine, IsSoundPlayer}
 use Rattle.machine_core.specs.State.{MachineState}
 
@@ -246,7 +246,7 @@ joined [] b c = refl
 joined (x ∷ a) b c = ap (λ l. x ∷ l) (joined a b c)
 
 round_room : (before : Option ℕ) (kept played : List ℕ) (player : PlayerState)
-    → room_for (round_ops before kept played ++ put_op player ∷ []) ≤ longest_keep
+    → room_for (round_ops before kept played ++ put_op player ∷ []) ≤ longest_place
 round_room before kept [] player = omega arith
 round_room before kept (id ∷ []) player =
     rw (joined (begin_ops id kept) (Played id ∷ []) (put_op player ∷ []))
@@ -256,7 +256,7 @@ round_room before kept (id ∷ next ∷ ids) player =
     (omega (arith, leave_room before (id ∷ next ∷ ids) (Played (last_or next ids) ∷ put_op player ∷ [])))
 
 pub place_short : (profile : Profile) (before : Option ℕ) (player : PlayerState) (s : SavedState) (place : Option PlaceState)
-    → length (ops_bytes profile (place_ops before player s place)) ≤ longest_keep
+    → length (ops_bytes profile (place_ops before player s place)) ≤ longest_place
 place_short profile before player s None = omega arith
 place_short profile before player s (Some place) =
     omega (
@@ -265,14 +265,17 @@ place_short profile before player s (Some place) =
       round_room before place.played player.played player,
     )
 
-pub keep_short : (profile : Profile) (m n : MachineState) → length (ops_bytes profile (keep_ops m n)) ≤ longest_keep
-keep_short profile m n =
-    keep_is (λ ops. length (ops_bytes profile ops) ≤ longest_keep) m n (omega arith)
+pub keep_few : (profile : Profile) (m n : MachineState) → length (ops_bytes profile (keep_ops m n)) ≤ longest_place
+keep_few profile m n =
+    keep_is (λ ops. length (ops_bytes profile ops) ≤ longest_place) m n (omega arith)
     (λ place. omega (
       arith,
       telling_room profile (round_ops m.player.current place.played n.player.played ++ put_op n.player ∷ []) n.saved,
       round_room m.player.current place.played n.player.played n.player,
     ))
+
+pub keep_short : (profile : Profile) (m n : MachineState) → length (ops_bytes profile (keep_ops m n)) ≤ longest_keep
+keep_short profile m n = omega (arith, keep_few profile m n)
 
 pub keep_none : (m n : MachineState) → m.saved.profile ≡ Named → length (ops_bytes m.saved.profile (keep_ops m n)) ≡ 0
 keep_none m n named =
@@ -280,13 +283,14 @@ keep_none m n named =
     ap (λ p. if_kept p (cond (goes_on m n) [] (place_ops m.player.current n.player n.saved n.saved.place))) named in
     ap (λ ops. length (ops_bytes m.saved.profile ops)) none
 
--- so they take the room that is kept free for them
-pub keep_room : (m n : MachineState) → length (ops_bytes m.saved.profile (keep_ops m n)) ≤ room_by m.saved.profile
+-- so they leave room for a time of the room that is kept free
+pub keep_room : (m n : MachineState)
+    → length (ops_bytes m.saved.profile (keep_ops m n)) + time_room m.saved.profile ≤ room_by m.saved.profile
 keep_room m n = of m.saved.profile refl
   where
-    of : (p : Profile) → m.saved.profile ≡ p → length (ops_bytes m.saved.profile (keep_ops m n)) ≤ room_by p
+    of : (p : Profile) → m.saved.profile ≡ p → length (ops_bytes m.saved.profile (keep_ops m n)) + time_room p ≤ room_by p
     of Named named = omega (arith, keep_none m n named)
-    of Wide wide = keep_short m.saved.profile m n
+    of Wide wide = omega (arith, keep_few m.saved.profile m n)
 
 -- ---- where the player is now is kept
 
@@ -334,4 +338,4 @@ at_short profile m = by_profile m.saved.profile
     by_profile : (p : Profile)
         → length (ops_bytes profile (if_kept p (place_ops m.player.current m.player m.saved m.saved.place))) ≤ longest_keep
     by_profile Named = omega arith
-    by_profile Wide = place_short profile m.player.current m.player m.saved m.saved.place
+    by_profile Wide = omega (arith, place_short profile m.player.current m.player m.saved m.saved.place)

@@ -14,7 +14,7 @@ use Rattle.player_core.specs.Reports.{counts}
 use Rattle.profile.specs.declared.profile.Profile.{Profile}
 use Rattle.profile.specs.declared.profile.Profile.TheVariants.{Named, Wide}
 use Rattle.state_codec.specs.Applied.{after, after_all, all_applied}
-use Rattle.state_codec.specs.Laws.{but_place}
+use Rattle.state_codec.specs.Laws.{but_kept}
 use Rattle.state_codec.specs.OpsPlace.{place_after, stands_in, stays_by}
 use Rattle.state_codec.specs.SavedState.{SavedState, IsSavedState}
 use Rattle.state_codec.specs.declared.op.Op.{Op}
@@ -25,13 +25,16 @@ use Rattle.state_codec.proofs.AppliedLaws.{all_applied-append}
 use Rattle.state_codec.proofs.PlaceLaws.{op_only, without_none}
 use Rattle.machine_core.specs.Command.{meaning}
 use Rattle.machine_core.specs.Happening.{nothing_happens}
-use Rattle.machine_core.specs.Keeping.{if_kept, keep_ops, keeps, keeps_place, kept, place_ops, put_op, round_ops, telling_ops, when_kept}
+use Rattle.machine_core.specs.Keeping.{if_kept, keep_ops, keeps, keeps_place, kept, place_ops, put_op, round_ops, telling_ops, times}
+use Rattle.machine_core.specs.Keeping.{when_kept}
 use Rattle.machine_core.specs.Meaning.{Meaning, Meant}
 use Rattle.machine_core.specs.State.{MachineState}
 use Rattle.machine_core.proofs.CommandLaws.{command_lawful}
 use Rattle.machine_core.proofs.FormLaws.{IsLawful, Lawful}
 use Rattle.machine_core.proofs.KeepingLaws.{keep_applied, keep_placed, keep_when}
+use Rattle.machine_core.proofs.KeptTimes.{none_behind, times_keep, times_of_none, times_rebuilt}
 use Rattle.machine_core.proofs.Sizes.{profile_stays}
+use Rattle.stored_lists.specs.Times.{Times}
 
 -- ---- what is made, and what is kept behind it, rebuild the saved half
 
@@ -282,8 +285,9 @@ ok_is : (x y : Meaning) → the_meaning x ≡ the_meaning y → x ≡ y
 ok_is x y same = cc
 
 -- what is kept behind a command is that of what it means
-pub kept_is : (m : MachineState) (meant : Meant) (x : Meaning) → kept m meant ≡ Ok x → (y : Meaning) × (meant ≡ Ok y) × (keeps m y ≡ x)
-kept_is m (Ok y) x is = (y, refl, ok_is (keeps m y) x is)
+pub kept_is : (m : MachineState) (meant : Meant) (x : Meaning) → kept m meant ≡ Ok x
+    → (y : Meaning) × (meant ≡ Ok y) × (times m (keeps m y) ≡ x)
+kept_is m (Ok y) x is = (y, refl, ok_is (times m (keeps m y)) x is)
 kept_is m (Err refusal) x is = absurd (cc)
 
 pub command_rebuilt : (mask : TagMask) (command : Command) (m : MachineState) (x : Meaning) → kept m (meaning mask command m) ≡ Ok x
@@ -291,16 +295,18 @@ pub command_rebuilt : (mask : TagMask) (command : Command) (m : MachineState) (x
 command_rebuilt mask command m x is =
     let y = kept_is m (meaning mask command m) x is in
     let lawful : IsLawful m y.0 = subst (Lawful m) y.1 (command_lawful mask command m) in
-    subst (λ (z : Meaning). all_applied z.ops m.saved ≡ Some z.after.saved) y.2 (joined_rebuilt m y.0.after y.0.ops lawful.rebuilt)
+    let placed = joined_rebuilt m y.0.after y.0.ops lawful.rebuilt in
+    subst (λ (z : Meaning). all_applied z.ops m.saved ≡ Some z.after.saved) y.2
+    (times_rebuilt m (keeps m y.0) (profile_stays (keeps m y.0).ops m.saved (keeps m y.0).after.saved placed) placed)
 
 -- Where the saved half stays, nothing is made: what a command itself makes changes more than the place.
 pub keeps_none : (m : MachineState) (x : Meaning) → IsLawful m x → IsSavedState m.saved → (keeps m x).after.saved ≡ m.saved
     → (keeps m x).ops ≡ []
 keeps_none m x lawful saved same =
     let placed = keep_placed m x.after in
-    let apart : x.after.saved ≡ but_place x.after.saved.place m.saved =
-    ap (but_place x.after.saved.place) (sym placed.same ∙ same) in
-    let empty : x.ops ≡ [] = (lawful.tells saved).none x.after.saved.place apart in
+    let apart : x.after.saved ≡ but_kept x.after.saved m.saved =
+    ap (but_kept x.after.saved) (sym placed.same ∙ same) in
+    let empty : x.ops ≡ [] = (lawful.tells saved).none x.after.saved apart in
     let rebuilt : Some m.saved ≡ Some x.after.saved = sym (ap (λ (ops : List Op). all_applied ops m.saved) empty) ∙ lawful.rebuilt in
     let stays : m.saved ≡ x.after.saved = cc in
     let none : keep_ops m x.after ≡ [] = kept_none m x.after (same ∙ stays) in
@@ -314,19 +320,43 @@ nothing_kept m n ops is empty =
     sym (ap (λ (l : List Op). all_applied l m.saved) empty) ∙ joined_rebuilt m n ops is in
     cc
 
+-- a state that is as before where the times are told is as before in all but them
+but_times : (m : MachineState) (z : Meaning) → (times m z).after.saved ≡ m.saved
+    → z.after.saved ≡ record m.saved { changed = z.after.saved.changed }
+but_times m z same =
+    times_keep (λ x. x.after.saved ≡ m.saved → z.after.saved ≡ record m.saved { changed = z.after.saved.changed }) m z
+    (λ same. ap (λ (s : SavedState). record s { changed = z.after.saved.changed }) same)
+    (λ wide lists changes same. ap (λ (s : SavedState). record s { changed = z.after.saved.changed }) same) same
+
+-- and then nothing is made either: what a command itself makes changes more than place and times
+keeps_so : (m : MachineState) (x : Meaning) → IsLawful m x → IsSavedState m.saved
+    → (keeps m x).after.saved ≡ record m.saved { changed = (keeps m x).after.saved.changed } → (keeps m x).ops ≡ []
+keeps_so m x lawful saved same =
+    let placed = keep_placed m x.after in
+    let apart : x.after.saved ≡ but_kept x.after.saved m.saved =
+    ap (but_kept x.after.saved) (sym placed.same ∙ same) in
+    let empty : x.ops ≡ [] = (lawful.tells saved).none x.after.saved apart in
+    let rebuilt : Some m.saved ≡ Some x.after.saved = sym (ap (λ (ops : List Op). all_applied ops m.saved) empty) ∙ lawful.rebuilt in
+    let stays : m.saved ≡ x.after.saved = cc in
+    let times : (keeps m x).after.saved.changed ≡ m.saved.changed =
+    ap (λ (s : SavedState). s.changed) placed.same ∙ ap (λ (s : SavedState). s.changed) (sym stays) in
+    keeps_none m x lawful saved (same ∙ ap (λ (times : Option Times). record m.saved { changed = times }) times)
+
 pub command_none : (mask : TagMask) (command : Command) (m : MachineState) (x : Meaning) → IsSavedState m.saved
     → kept m (meaning mask command m) ≡ Ok x → x.after.saved ≡ m.saved → x.ops ≡ []
 command_none mask command m x saved is same =
     let y = kept_is m (meaning mask command m) x is in
     let lawful : IsLawful m y.0 = subst (Lawful m) y.1 (command_lawful mask command m) in
     let none : (keeps m y.0).ops ≡ [] =
-    keeps_none m y.0 lawful saved (ap (λ (z : Meaning). z.after.saved) y.2 ∙ same) in
-    sym (ap (λ (z : Meaning). z.ops) y.2) ∙ none
+    keeps_so m y.0 lawful saved (but_times m (keeps m y.0) (ap (λ (z : Meaning). z.after.saved) y.2 ∙ same)) in
+    sym (ap (λ (z : Meaning). z.ops) y.2) ∙ ap (λ (z : Meaning). z.ops) (times_of_none m (keeps m y.0) none) ∙ none
 
 pub command_same : (mask : TagMask) (command : Command) (m : MachineState) (x : Meaning) → kept m (meaning mask command m) ≡ Ok x
     → x.ops ≡ [] → x.after.saved ≡ m.saved
 command_same mask command m x is empty =
     let y = kept_is m (meaning mask command m) x is in
     let lawful : IsLawful m y.0 = subst (Lawful m) y.1 (command_lawful mask command m) in
+    let before : (keeps m y.0).ops ≡ [] = none_behind m (keeps m y.0) (ap (λ (z : Meaning). z.ops) y.2 ∙ empty) in
     sym (ap (λ (z : Meaning). z.after.saved) y.2)
-    ∙ nothing_kept m y.0.after y.0.ops lawful.rebuilt (ap (λ (z : Meaning). z.ops) y.2 ∙ empty)
+    ∙ ap (λ (z : Meaning). z.after.saved) (times_of_none m (keeps m y.0) before)
+    ∙ nothing_kept m y.0.after y.0.ops lawful.rebuilt before

@@ -23,7 +23,7 @@ use Rattle.machine_core.specs.Before.{before_of, changed_since, is_of_lists, is_
 use Rattle.machine_core.specs.Changed.{changed, same_lists, same_stickers}
 use Rattle.machine_core.specs.Command.{meaning}
 use Rattle.machine_core.specs.Happening.{HasHappened}
-use Rattle.machine_core.specs.Keeping.{if_kept, keep_ops, keep_ops_since, keeps, kept_event, with_ops}
+use Rattle.machine_core.specs.Keeping.{if_kept, keep_ops, keep_ops_since, keeps, kept_event, times, with_ops}
 use Rattle.machine_core.specs.Meaning.{Meaning, Meant, order_ops}
 use Rattle.machine_core.specs.Reports.{happens}
 use Rattle.machine_core.specs.Size.{max_request_bytes}
@@ -39,6 +39,7 @@ use Rattle.machine_core.proofs.CommandLaws.{command_lawful}
 use Rattle.machine_core.proofs.FormLaws.{IsLawful, Lawful, TellsChanges}
 use Rattle.machine_core.proofs.KeepingLaws.{IsPlaced, keep_no_lists, keep_no_stickers, keep_placed, keep_short}
 use Rattle.machine_core.proofs.KeptLaws.{joined_rebuilt}
+use Rattle.machine_core.proofs.KeptTimes.{time_op, times_keep}
 use Rattle.machine_core.proofs.Sizes.{body_short}
 
 -- ---- what is told to have changed
@@ -79,26 +80,26 @@ keep_ops_are m n profile before under is = λ i. if_kept (under i) (keep_ops_sin
 
 -- ---- a command
 
-pub since_kept : (mask : TagMask) (command : Command) (m n k : MachineState) (work done all_done : Work) (profile : Profile)
-    (before : Before) (made : ℕ) (all : List Op) → Went m.saved.profile (meaning mask command m) n work done → IsSavedState m.saved
-    → profile ≡ m.saved.profile → before ≡ before_of m
-    → k ≡ with_ops (if_kept profile (keep_ops_since before n)) n
-    → all_done.ops.items ≡ done.ops.items ++ if_kept profile (keep_ops_since before n)
-    → made ≡ vec_len work.ops → all ≡ all_done.ops.items
-    → changed_since before (take (length all - made) (drop made all)) k ≡ changed m k
-since_kept mask command m n k work done all_done profile before made all went saved under is stands gains count same =
-    let x : Meaning = went.meaning in
-    let lawful : IsLawful m x = subst (Lawful m) went.means (command_lawful mask command m) in
-    let ops : if_kept profile (keep_ops_since before n) ≡ keep_ops m x.after =
-    keep_ops_are m n profile before under is ∙ ap (keep_ops m) went.stands in
-    let machine : k ≡ (keeps m x).after = stands ∙ (λ i. with_ops (ops i) (went.stands i)) in
-    let gained : all_done.ops.items ≡ work.ops.items ++ (keeps m x).ops =
-    gains ∙ (λ i. went.ops.ops i ++ ops i) ∙ joined work.ops.items x.ops (keep_ops m x.after) in
-    since_gained m k (keeps m x) work all_done before made all (keeps_since m x lawful saved) machine gained is count same
-  where
-    joined : (a b c : List Op) → (a ++ b) ++ c ≡ a ++ (b ++ c)
-    joined [] b c = refl
-    joined (op ∷ a) b c = ap (λ (l : List Op). op ∷ l) (joined a b c)
+-- the time tells nothing
+times_since : (m : MachineState) (z : Meaning) → changed_since (before_of m) z.ops z.after ≡ changed m z.after
+    → changed_since (before_of m) (times m z).ops (times m z).after ≡ changed m (times m z).after
+unfolding changed
+times_since m z told =
+    times_keep (λ x. changed_since (before_of m) x.ops x.after ≡ changed m x.after) m z told (λ wide lists changes.
+    (λ i. record (changed_since (before_of m) z.ops z.after) {
+      stored_playlist = told_no_more is_of_lists z.ops (time_op z ∷ []) refl i;
+      sticker = told_no_more is_of_stickers z.ops (time_op z ∷ []) refl i;
+    })
+    ∙ told)
+
+pub since_timed : (mask : TagMask) (command : Command) (m l : MachineState) (x : Meaning) (work all_done : Work) (before : Before)
+    (made : ℕ) (all : List Op) → meaning mask command m ≡ Ok x → IsSavedState m.saved → l ≡ (times m (keeps m x)).after
+    → all_done.ops.items ≡ work.ops.items ++ (times m (keeps m x)).ops → before ≡ before_of m → made ≡ vec_len work.ops
+    → all ≡ all_done.ops.items → changed_since before (take (length all - made) (drop made all)) l ≡ changed m l
+since_timed mask command m l x work all_done before made all means saved machine gained is count same =
+    let lawful : IsLawful m x = subst (Lawful m) means (command_lawful mask command m) in
+    since_gained m l (times m (keeps m x)) work all_done before made all (times_since m (keeps m x) (keeps_since m x lawful saved)) machine
+    gained is count same
 
 -- ---- an event
 

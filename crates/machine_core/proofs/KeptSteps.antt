@@ -1,11 +1,13 @@
--- How the ops of the player's place are made one after the other, and that an event of the place happened as it must.
-use Rattle.std.proofs.Common.{◌≡◌, ℕ, ◌+◌, ◌-◌, ◌≤◌, Bool, true, false, cond, ◌==◌, List, [], ◌∷◌, ◌++◌, length, get_or}
+-- How the ops of the player's place are made one after the other, and that of the playlists' time; and that an event of the place happened
+-- as it must.
+use Rattle.std.proofs.Common.{◌≡◌, ℕ, ◌+◌, ◌-◌, ◌≤◌, Bool, true, false, cond, ◌==◌, List, [], ◌∷◌, ◌++◌, length, get_or, take, drop}
 use Rattle.std.proofs.Common.{Option, Some, None, append_assoc, refl, sym, ap, subst, ◌∙◌, eq-eqb, arith}
 use Rattle.std.proofs.lemmas.Bool.{ne_eqb}
+use Rattle.std.specs.List.{list_any}
 use Rattle.std.specs.Option.{option_to_list}
 use Rattle.std.specs.Vec.{vec_capacity, vec_len}
 use Rattle.std.proofs.lemmas.Grind.{flat_map-append}
-use Rattle.std.proofs.lemmas.List.{length-append}
+use Rattle.std.proofs.lemmas.List.{length-append, length-drop, take_all}
 use Rattle.idle_masks.specs.Subsystems.{none}
 use Rattle.play_queue.specs.declared.entry.Entry.{Entry}
 use Rattle.player_core.specs.Commands.{last_or}
@@ -24,15 +26,16 @@ use Rattle.state_codec.specs.declared.op.Op.{Op}
 use Rattle.state_codec.specs.declared.op.Op.TheVariants.{Place}
 use Rattle.state_codec.specs.declared.op.place_op.PlaceOp.{PlaceOp}
 use Rattle.state_codec.specs.declared.op.place_op.PlaceOp.TheVariants.{Played}
-use Rattle.machine_core.specs.Before.{before_of, changed_since}
+use Rattle.machine_core.specs.Before.{before_of, changed_since, is_of_lists}
 use Rattle.machine_core.specs.Happening.{HasHappened, Happening, nothing_happens}
 use Rattle.machine_core.specs.Keeping.{goes_on_since, if_kept, keep_ops_since, keeps_place, leave_ops, place_ops, put_op}
-use Rattle.machine_core.specs.Keeping.{resumed_from, resumes, round_ops, telling_ops, when_kept, when_resumed, with_ops}
+use Rattle.machine_core.specs.Keeping.{resumed_from, resumes, round_ops, telling_ops, telling_time, time_ops, when_kept, when_resumed}
+use Rattle.machine_core.specs.Keeping.{with_ops}
 use Rattle.machine_core.specs.Reports.{player_happens}
-use Rattle.machine_core.specs.Size.{longest_keep, max_request_bytes}
+use Rattle.machine_core.specs.Size.{longest_keep, longest_place, max_request_bytes}
 use Rattle.machine_core.specs.State.{MachineState}
 use Rattle.machine_core.specs.Steps.{named_length}
-use Rattle.machine_core.specs.Work.{CanKeepBy, keep_count}
+use Rattle.machine_core.specs.Work.{CanKeepBy, CanTime, keep_count}
 use Rattle.machine_core.specs.declared.changed.Before.{Before}
 use Rattle.machine_core.specs.declared.happened.Happened.{Happened}
 use Rattle.machine_core.specs.declared.work.Work.{Work}
@@ -172,9 +175,27 @@ room_if_wide Wide work can wide = can
 
 pub kept_fits : (profile : Profile) (ops : List Op) (size bytes : ℕ) → size ≤ max_request_bytes
     → (profile ≡ Wide → size + longest_keep ≤ max_request_bytes) → bytes ≡ length (ops_bytes profile (if_kept profile ops))
-    → bytes ≤ longest_keep → size + bytes ≤ max_request_bytes
+    → bytes ≤ longest_place → size + bytes ≤ max_request_bytes
 kept_fits Named ops size bytes fits room is few = omega (arith, is)
 kept_fits Wide ops size bytes fits room is few = let wide : size + longest_keep ≤ max_request_bytes = room refl in omega (arith, wide)
+
+-- a time fits behind them
+pub time_fits : (profile : Profile) (ops : List Op) (work : Work) (bytes : ℕ) → (profile ≡ Wide → CanTime work)
+    → bytes ≡ length (ops_bytes profile (if_kept profile ops)) → bytes ≤ 9 → work.size + bytes ≤ max_request_bytes
+time_fits Named ops work bytes room is few = omega (arith, is, work.fits)
+time_fits Wide ops work bytes room is few = let wide : CanTime work = room refl in omega (arith, wide.fits)
+
+-- ---- the time of playlists, behind the ops of a command
+
+-- the ops from one on are all behind it
+made_behind : (made : ℕ) (all ops : List Op) → all ≡ ops → take (length all - made) (drop made all) ≡ drop made ops
+made_behind made all ops same =
+    take_all (length all - made) (drop made all) (omega (arith, length-drop made all)) ∙ ap (drop made) same
+
+pub some_time : (made : ℕ) (all ops : List Op) (m : MachineState) → all ≡ ops
+    → list_any is_of_lists (take (length all - made) (drop made all)) ≡ true → time_ops (drop made ops) m ≡ telling_time m
+some_time made all ops m same some =
+    ap (λ (b : Bool). cond b (telling_time m) []) (sym (ap (list_any is_of_lists) (made_behind made all ops same)) ∙ some)
 
 -- ---- the events
 

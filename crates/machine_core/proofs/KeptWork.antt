@@ -1,9 +1,10 @@
--- A command that leaves room free to keep the player's place, and the place that is kept behind it.
-use Rattle.std.proofs.Common.{◌≡◌, ℕ, ◌+◌, ◌-◌, ◌<◌, ◌≤◌, Bool, true, false, cond, List, [], ◌∷◌, ◌++◌, length, Result, Ok, Err}
-use Rattle.std.proofs.Common.{refl, sym, ap, subst, ◌∙◌, nat_le, le-leb, arith}
+-- A command that leaves room free to keep the player's place and the playlists' time, and what is kept of both behind it.
+use Rattle.std.proofs.Common.{◌≡◌, ℕ, ◌+◌, ◌-◌, ◌<◌, ◌≤◌, Bool, true, false, cond, List, ◌++◌, length, Result, Ok, Err}
+use Rattle.std.proofs.Common.{refl, sym, ap, subst, ◌∙◌, nat_le, le-leb, drop, append_assoc, arith}
 use borrow.Author.Tests.{lt-leb}
 use Rattle.std.proofs.lemmas.Grind.{flat_map-append}
-use Rattle.std.proofs.lemmas.List.{append-nil, length-append}
+use Rattle.std.proofs.Math.Seq.{drop-append_seam}
+use Rattle.std.proofs.lemmas.List.{length-append}
 use Rattle.std.specs.Global.{Vec}
 use Rattle.std.specs.Result.{IsErrAnd, is_err}
 use Rattle.std.specs.Vec.{vec_capacity, vec_len}
@@ -17,7 +18,7 @@ use Rattle.state_codec.specs.Spelling.{ops_bytes}
 use Rattle.state_codec.specs.SpellingOps.{op_bytes}
 use Rattle.state_codec.specs.declared.op.Op.{Op}
 use Rattle.machine_core.specs.Before.{before_of}
-use Rattle.machine_core.specs.Keeping.{if_kept, keep_ops, keep_ops_since, keeps, kept, with_ops}
+use Rattle.machine_core.specs.Keeping.{if_kept, keep_ops, keep_ops_since, keeps, kept, time_ops, times, with_ops}
 use Rattle.machine_core.specs.Looks.{max_looks, weighed}
 use Rattle.machine_core.specs.Meaning.{Meaning, Meant}
 use Rattle.machine_core.specs.Size.{longest_keep, max_request_bytes, room_by, within, within_room}
@@ -194,19 +195,37 @@ went_within Wide size x fits =
     (fits_so (size + longest_keep) (omega (arith, fits)))
     ∙ fits_within Wide (size + longest_keep) x (omega (arith, fits))
 
+-- the command did what it means, and what plays then is kept, but not yet the time of what it changed of playlists
+pub record WentPlaced (m : MachineState) (x : Meaning) (after : MachineState) (work done : Work) : Type 0 where
+  pub stands : after ≡ (keeps m x).after
+  pub text : done.text.items ≡ work.text.items ++ x.text
+  pub ops : AddsOps (keeps m x).ops (length (ops_bytes m.saved.profile (keeps m x).ops)) work done
+  pub room : HasRoom command_room done
+
+-- and that time too
+pub record WentTimed (m : MachineState) (x : Meaning) (after : MachineState) (work done : Work) : Type 0 where
+  pub stands : after ≡ (times m (keeps m x)).after
+  pub text : done.text.items ≡ work.text.items ++ x.text
+  pub ops : AddsOps (times m (keeps m x)).ops (length (ops_bytes m.saved.profile (times m (keeps m x)).ops)) work done
+  pub room : HasRoom command_room done
+
+pub went_means : (meant : Meant) (m n : MachineState) (w d : Work) (went : Went m.saved.profile meant n w d)
+    → d.size + room_by m.saved.profile ≤ max_request_bytes → within_room m.saved.profile w.size meant ≡ Ok went.meaning
+went_means meant m n w d went leaves =
+    ap (within_room m.saved.profile w.size) went.means
+    ∙ went_within m.saved.profile w.size went.meaning (omega (arith, went.ops.size, leaves))
+
 pub went_kept : (meant : Meant) (m n k : MachineState) (w d e : Work) (profile : Profile) (before : Before)
-    → Went m.saved.profile meant n w d → d.size + room_by m.saved.profile ≤ max_request_bytes → profile ≡ m.saved.profile
-    → before ≡ before_of m → k ≡ with_ops (if_kept profile (keep_ops_since before n)) n
+    (went : Went m.saved.profile meant n w d) → profile ≡ m.saved.profile → before ≡ before_of m
+    → k ≡ with_ops (if_kept profile (keep_ops_since before n)) n
     → (let ops = if_kept profile (keep_ops_since before n) in AddsOps ops (length (ops_bytes profile ops)) d e)
-    → e.text ≡ d.text → WentKept m.saved.profile (kept m (within_room m.saved.profile w.size meant)) k w e
-went_kept meant m n k w d e profile before went room under is stands gains text = record {
-  meaning = keeps m x;
-  means = ap (kept m) (ap (within_room p w.size) went.means ∙ went_within p w.size x (omega (arith, size, leaves)));
+    → e.text ≡ d.text → WentPlaced m went.meaning k w e
+went_kept meant m n k w d e profile before went under is stands gains text = record {
   stands = stands ∙ (λ i. with_ops (kept_so i) (went.stands i));
   text = ap (λ (v : Vec ℕ). v.items) text ∙ went.text;
   ops = record {
-    ops = gains.ops ∙ (λ i. went.ops.ops i ++ kept_so i) ∙ joined w.ops.items x.ops (keep_ops m x.after);
-    size = omega (arith, gains.size, size, bytes, few);
+    ops = gains.ops ∙ (λ i. went.ops.ops i ++ kept_so i) ∙ append_assoc w.ops.items x.ops (keep_ops m x.after);
+    size = omega (arith, gains.size, went.ops.size, bytes, few);
     fits = e.fits;
   };
   room = same_room d e text went.room;
@@ -218,18 +237,8 @@ went_kept meant m n k w d e profile before went room under is stands gains text 
     x : Meaning
     x = went.meaning
 
-    size : d.size ≡ w.size + length (ops_bytes p x.ops)
-    size = went.ops.size
-
-    leaves : d.size + room_by p ≤ max_request_bytes
-    leaves = room
-
     kept_so : if_kept profile (keep_ops_since before n) ≡ keep_ops m x.after
     kept_so = keep_ops_are m n profile before under is ∙ ap (keep_ops m) went.stands
-
-    joined : (a b c : List Op) → (a ++ b) ++ c ≡ a ++ (b ++ c)
-    joined [] b c = refl
-    joined (op ∷ a) b c = ap (λ (l : List Op). op ∷ l) (joined a b c)
 
     few : length (ops_bytes profile (if_kept profile (keep_ops_since before n))) ≡ length (ops_bytes p (keep_ops m x.after))
     few = λ i. length (ops_bytes (under i) (kept_so i))
@@ -237,6 +246,69 @@ went_kept meant m n k w d e profile before went room under is stands gains text 
     bytes : length (ops_bytes p (x.ops ++ keep_ops m x.after)) ≡ length (ops_bytes p x.ops) + length (ops_bytes p (keep_ops m x.after))
     bytes = ap length (flat_map-append (op_bytes p) x.ops (keep_ops m x.after))
         ∙ length-append (ops_bytes p x.ops) (ops_bytes p (keep_ops m x.after))
+
+-- the ops from the command's own on are some of all
+pub made_within : (w d e : Work) (x y : List Op) (made : ℕ) → made ≡ vec_len w.ops → d.ops.items ≡ w.ops.items ++ x
+    → e.ops.items ≡ d.ops.items ++ y → made ≤ vec_len e.ops
+made_within w d e x y made count first second =
+    omega (
+      arith,
+      count,
+      w.ops.ok.0,
+      e.ops.ok.0,
+      ap length (second ∙ ap (λ (l : List Op). l ++ y) first),
+      length-append (w.ops.items ++ x) y,
+      length-append w.ops.items x,
+    )
+
+pub went_timed : (m : MachineState) (x : Meaning) (k l : MachineState) (w e f : Work) (profile : Profile) (made : ℕ)
+    → WentPlaced m x k w e → profile ≡ m.saved.profile → made ≡ vec_len w.ops
+    → l ≡ with_ops (if_kept profile (time_ops (drop made e.ops.items) k)) k
+    → (let ops = if_kept profile (time_ops (drop made e.ops.items) k) in AddsOps ops (length (ops_bytes profile ops)) e f)
+    → f.text ≡ e.text → WentTimed m x l w f
+went_timed m x k l w e f profile made went under count stands gains text = record {
+  stands = stands ∙ (λ i. with_ops (so i) (went.stands i));
+  text = ap (λ (v : Vec ℕ). v.items) text ∙ went.text;
+  ops = record {
+    ops = gains.ops ∙ (λ i. went.ops.ops i ++ so i) ∙ append_assoc w.ops.items (keeps m x).ops more;
+    size = omega (arith, gains.size, went.ops.size, few, bytes);
+    fits = f.fits;
+  };
+  room = same_room e f text went.room;
+}
+  where
+    p : Profile
+    p = m.saved.profile
+
+    more : List Op
+    more = if_kept p (time_ops (keeps m x).ops (keeps m x).after)
+
+    counted : made ≡ length w.ops.items
+    counted = omega (arith, count, w.ops.ok.0)
+
+    made_since : drop made e.ops.items ≡ (keeps m x).ops
+    made_since = (λ i. drop (counted i) (went.ops.ops i)) ∙ drop-append_seam w.ops.items (keeps m x).ops
+
+    so : if_kept profile (time_ops (drop made e.ops.items) k) ≡ more
+    so = λ i. if_kept (under i) (time_ops (made_since i) (went.stands i))
+
+    few : length (ops_bytes profile (if_kept profile (time_ops (drop made e.ops.items) k))) ≡ length (ops_bytes p more)
+    few = λ i. length (ops_bytes (under i) (so i))
+
+    bytes : length (ops_bytes p ((keeps m x).ops ++ more)) ≡ length (ops_bytes p (keeps m x).ops) + length (ops_bytes p more)
+    bytes = ap length (flat_map-append (op_bytes p) (keeps m x).ops more)
+        ∙ length-append (ops_bytes p (keeps m x).ops) (ops_bytes p more)
+
+pub went_all : (meant : Meant) (m l : MachineState) (x : Meaning) (w f : Work) → meant ≡ Ok x → WentTimed m x l w f
+    → WentKept m.saved.profile (kept m meant) l w f
+went_all meant m l x w f means timed = record {
+  meaning = times m (keeps m x);
+  means = ap (kept m) means;
+  stands = timed.stands;
+  text = timed.text;
+  ops = timed.ops;
+  room = timed.room;
+}
 
 -- ---- the limit on what is looked at
 

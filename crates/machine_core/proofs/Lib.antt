@@ -34,5 +34,6 @@ pub mod KeepingLaws
 pub mod KeptLaws
 pub mod KeptReports
 pub mod KeptSteps
+pub mod KeptTimes
 pub mod KeptWork
 pub mod Rounds

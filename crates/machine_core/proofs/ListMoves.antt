@@ -17,9 +17,12 @@ use Rattle.machine_core.proofs.FormLaws.{IsLawful, TellsChanges, same_stickers_t
 use Rattle.machine_core.proofs.InTurn.{all_apply, none_refused}
 use Rattle.machine_core.proofs.SameParts.{lists_decide}
 
--- the playlists alone change
-pub lists_only : (ops : List ListOp) (s : SavedState)
-    → after_all (of_lists ops) s ≡ record s { lists = (after_all (of_lists ops) s).lists }
+-- the playlists and their times of another state
+abbrev pub with_lists_of : SavedState → SavedState → SavedState
+with_lists_of s t = record s { lists = t.lists; changed = t.changed }
+
+-- the playlists and their times alone change
+pub lists_only : (ops : List ListOp) (s : SavedState) → after_all (of_lists ops) s ≡ with_lists_of s (after_all (of_lists ops) s)
 lists_only [] s = refl
 lists_only (op ∷ ops) s = lists_only ops (after (Lists op) s)
 

@@ -12,3 +12,4 @@ pub mod Gone
 pub mod Made
 pub mod Same
 pub mod Left
+pub mod Timed

@@ -4,7 +4,7 @@ use Rattle.state_codec.specs.Applied.{after}
 use Rattle.state_codec.specs.Laws.{uses_order}
 use Rattle.state_codec.specs.SavedState.{SavedState}
 use Rattle.state_codec.specs.declared.op.Op.{Op}
-use Rattle.state_codec.specs.declared.op.Op.TheVariants.{SetOption, SetVolume, SetOrder, Queue, List as Lists, Sticker, Batch, Place}
+use Rattle.state_codec.specs.declared.op.Op.TheVariants.{SetOption, SetVolume, SetOrder, Queue, List as Lists, Sticker, Batch, Place, Timed}
 use Rattle.state_codec.specs.declared.op.queue_op.QueueOp.{QueueOp}
 use Rattle.state_codec.specs.declared.op.queue_op.QueueOp.TheVariants as queue
 use Rattle.state_codec.proofs.OpsUnchanged.{op_first}
@@ -32,6 +32,7 @@ followed_apart (Lists op) m = λ g begins. refl
 followed_apart (Sticker op) m = λ g begins. refl
 followed_apart (Batch changes) m = λ g begins. refl
 followed_apart (Place op) m = λ g begins. refl
+followed_apart (Timed seconds) m = λ g begins. refl
 
 -- an op that has nothing to do with the order leaves it
 pub order_stays : (op : Op) (s : SavedState) → uses_order op ≡ false → (after op s).order ≡ s.order

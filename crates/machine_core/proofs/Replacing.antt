@@ -132,11 +132,11 @@ replaced_tells name m none changes kept =
     let s : SavedState = m.saved in
     let t : SavedState = after_all (replace_ops name) s in
     let free : replace_refusal name s ≡ None = refused_in_turn name s kept ∙ none in
-    let other : t ≡ s → ⊥ = λ same. let nothing : replaces_nothing name s ≡ true = (nothing_replaced name s kept free).1 same in cc in
+    let other : t.lists ≡ s.lists → ⊥ = λ same. let nothing : replaces_nothing name s ≡ true = (nothing_replaced name s kept free).1 same in cc in
     record {
-      none = λ place same. absurd (other (ap (λ (l : Stored). record s { lists = l }) (ap (λ (u : SavedState). u.lists) same)));
+      none = λ place same. absurd (other (ap (λ (u : SavedState). u.lists) same));
       lists = sym (told_apart s.lists t.lists _ (lists_decide s.lists t.lists)
-          (λ e. other (ap (λ (l : Stored). record s { lists = l }) (sym e))));
+          (λ e. other (sym e)));
       stickers = same_stickers_told s t refl;
     }
 

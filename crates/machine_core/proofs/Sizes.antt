@@ -13,7 +13,7 @@ use Rattle.state_codec.specs.Spelling.{body_bytes, ops_bytes}
 use Rattle.state_codec.specs.SpellingFields.{u32_bytes}
 use Rattle.state_codec.specs.Steps.{◌>>=◌}
 use Rattle.state_codec.specs.declared.op.Op.{Op}
-use Rattle.state_codec.specs.declared.op.Op.TheVariants.{SetOption, SetVolume, SetOrder, Queue, List as Lists, Sticker, Batch, Place}
+use Rattle.state_codec.specs.declared.op.Op.TheVariants.{SetOption, SetVolume, SetOrder, Queue, List as Lists, Sticker, Batch, Place, Timed}
 use Rattle.state_codec.specs.declared.op.queue_op.QueueOp.{QueueOp}
 use Rattle.state_codec.specs.declared.op.queue_op.QueueOp.TheVariants as queue
 use Rattle.state_codec.specs.OpsQueue.{after_queue}
@@ -55,6 +55,7 @@ profile_after (Lists op) s = refl
 profile_after (Sticker op) s = refl
 profile_after (Batch changes) s = refl
 profile_after (Place op) s = refl
+profile_after (Timed seconds) s = refl
 
 -- nor do ops one after the other
 first_stays : (i : ℕ) (op : Op) (ops : List Op) (s t : SavedState) (o : Option OpRefusal)

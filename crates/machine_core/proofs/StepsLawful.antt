@@ -17,7 +17,7 @@ use Rattle.player_core.specs.Player.{PlayerState, Step}
 use Rattle.player_core.specs.declared.options.Single.TheVariants.{Off, Oneshot}
 use Rattle.player_core.specs.declared.refusal.PlayerError.{PlayerError}
 use Rattle.state_codec.specs.Applied.{refusal_of, after, after_all}
-use Rattle.state_codec.specs.Laws.{but_place}
+use Rattle.state_codec.specs.Laws.{but_kept}
 use Rattle.state_codec.specs.OpsQueue.{queue_refusal}
 use Rattle.state_codec.specs.SavedState.{SavedState, IsSavedState}
 use Rattle.state_codec.specs.declared.op.Op.{Op}
@@ -181,7 +181,7 @@ consume_of_turn (Some g) s = refl
 none_if_same : (order removed : Option ℕ) (single consume : Bool) (s : SavedState) → IsSavedState s →
     ((g : ℕ) → order ≡ Some g → g ≡ s.order → ⊥) → ((at : ℕ) → removed ≡ Some at → at < length s.queue.entries) →
     (single ≡ true → s.options.single ≡ Oneshot) → (consume ≡ true → s.options.consume ≡ Oneshot) →
-    (place : Option PlaceState) → done order removed single consume s ≡ but_place place s →
+    (place : SavedState) → done order removed single consume s ≡ but_kept place s →
     order_ops order ++ (removal_ops removed ++ (single_ops single ++ consume_ops consume)) ≡ []
 none_if_same order (Some at) single consume s kept grows within once too place same =
     absurd (removal_differs at s kept (within at refl)

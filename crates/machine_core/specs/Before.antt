@@ -6,7 +6,7 @@ use Rattle.std.specs.Option.{option_eq}
 use Rattle.idle_masks.specs.declared.subsystem.Subsystems.{Subsystems}
 use Rattle.state_codec.specs.OpsSettings.{same_flag}
 use Rattle.state_codec.specs.declared.op.Op.{Op}
-use Rattle.state_codec.specs.declared.op.Op.TheVariants.{SetOption, SetVolume, SetOrder, Queue, List as Lists, Sticker, Batch, Place}
+use Rattle.state_codec.specs.declared.op.Op.TheVariants.{SetOption, SetVolume, SetOrder, Queue, List as Lists, Sticker, Batch, Place, Timed}
 use Rattle.machine_core.specs.Changed.{same_options, same_state}
 use Rattle.machine_core.specs.State.{MachineState}
 use Rattle.machine_core.specs.declared.changed.Before.{Before}
@@ -34,6 +34,7 @@ is_of_lists (Lists op) = true
 is_of_lists (Sticker op) = false
 is_of_lists (Batch changes) = false
 is_of_lists (Place op) = false
+is_of_lists (Timed seconds) = false
 
 -- an op of stickers
 abbrev pub is_of_stickers : Op → Bool
@@ -45,6 +46,7 @@ is_of_stickers (Lists op) = false
 is_of_stickers (Sticker op) = true
 is_of_stickers (Batch changes) = false
 is_of_stickers (Place op) = false
+is_of_stickers (Timed seconds) = false
 
 -- the same state, current id and ticket as before
 abbrev pub plays_on : Before → MachineState → Bool

@@ -15,8 +15,8 @@ use Rattle.machine_core.specs.Setup.{setup_meaning}
 use Rattle.machine_core.specs.State.{MachineState}
 use Rattle.machine_core.specs.Stickers.{stickers_meaning}
 
--- To a client that sees these tags. The commands of a session speak of the client, or of where a request begins and ends, and mean nothing
--- to the machine.
+-- To a client that sees these tags. The commands of messages, of pictures and of a session speak of the client, or of where a request begins
+-- and ends, and mean nothing to the machine.
 unfoldable pub meaning : TagMask → Command → MachineState → Meant
 meaning mask (commands.Settings command) m = settings_meaning command m
 meaning mask (commands.Database command) m = database_meaning mask command m
@@ -26,5 +26,6 @@ meaning mask (commands.Lists command) m = lists_meaning mask command m
 meaning mask (commands.Stickers command) m = stickers_meaning command m
 meaning mask (commands.Playing command) m = playing_meaning mask command m
 meaning mask (commands.Messages command) m = says [] m
+meaning mask (commands.Pictures command) m = says [] m
 meaning mask (commands.Session command) m = says [] m
 meaning mask (commands.Setup command) m = setup_meaning command m

@@ -27,6 +27,7 @@ use Rattle.state_codec.specs.SavedState.{SavedState}
 use Rattle.state_codec.specs.Steps.{◌>>=◌}
 use Rattle.song_files.specs.TagSet.{tags_in}
 use Rattle.stored_lists.specs.Lists.{Stored}
+use Rattle.stored_lists.specs.Times.{Times}
 use Rattle.song_files.specs.declared.tag.Tag.{Tag}
 use Rattle.song_files.specs.declared.tag.Tag.TheVariants.{Artist, Album}
 use Rattle.machine_core.specs.Lent.{lent}
@@ -48,13 +49,13 @@ content_lines mask Wide songs place =
     flat_map (song_lines mask) (told_songs_in place rows) ++ flat_map directory_line (told_folders_in place rows)
 
 -- the playlists, which the wide profile tells behind what stands right in the root
-abbrev pub root_lists : Profile → Stored → Place → List ℕ
-root_lists Wide lists Root = name_lines Wide lists
-root_lists profile lists place = []
+abbrev pub root_lists : Profile → Option Times → Stored → Place → List ℕ
+root_lists Wide times lists Root = name_lines Wide times lists
+root_lists profile times lists place = []
 
 abbrev pub folder_info : TagMask → SavedState → Place → Result (List ℕ) CommandRefusal
 folder_info mask s place =
-    if is_folder s.songs place then Ok (content_lines mask s.profile s.songs place ++ root_lists s.profile s.lists place)
+    if is_folder s.songs place then Ok (content_lines mask s.profile s.songs place ++ root_lists s.profile s.changed s.lists place)
     else Err NoSuchUri
 
 -- the song of a path goes before the folder of that path

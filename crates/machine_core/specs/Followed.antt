@@ -12,7 +12,7 @@ use Rattle.song_db.specs.declared.change.RowChange.{RowChange}
 use Rattle.state_codec.specs.Applied.{after}
 use Rattle.state_codec.specs.SavedState.{SavedState}
 use Rattle.state_codec.specs.declared.op.Op.{Op}
-use Rattle.state_codec.specs.declared.op.Op.TheVariants.{SetOption, SetVolume, SetOrder, Queue, List as Lists, Sticker, Batch, Place}
+use Rattle.state_codec.specs.declared.op.Op.TheVariants.{SetOption, SetVolume, SetOrder, Queue, List as Lists, Sticker, Batch, Place, Timed}
 use Rattle.state_codec.specs.declared.op.queue_op.QueueOp.{QueueOp}
 use Rattle.state_codec.specs.declared.op.queue_op.QueueOp.TheVariants.{Add, Delete, Move, Swap, Shuffle, Prio}
 use Rattle.state_codec.specs.declared.op.setting.Setting.{Setting}
@@ -85,3 +85,4 @@ followed (Lists op) m = stays m
 followed (Sticker op) m = stays m
 followed (Batch changes) m = follows_batch changes m
 followed (Place op) m = stays m
+followed (Timed seconds) m = stays m

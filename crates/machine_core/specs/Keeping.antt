@@ -1,4 +1,5 @@
--- What is kept of the player behind a command or an event that changes what plays: ops that bring the kept place to where the player is.
+-- What is kept behind a command or an event that changes what plays: ops that bring the kept place to where the player is; and behind a
+-- command that changes playlists: when that was.
 use Rattle.std.specs.Prelude.{ℕ, Bool, not, ◌==◌, ◌&&◌, List, [], ◌∷◌, ◌++◌, Option, Some, None, Ok, Err, unwrap_or, if◌then◌else◌}
 use Rattle.std.specs.List.{list_any}
 use Rattle.idle_masks.specs.Subsystems.{none}
@@ -14,10 +15,10 @@ use Rattle.state_codec.specs.OpsPlace.{stands_in}
 use Rattle.state_codec.specs.OpsSettings.{same_flag}
 use Rattle.state_codec.specs.SavedState.{SavedState}
 use Rattle.state_codec.specs.declared.op.Op.{Op}
-use Rattle.state_codec.specs.declared.op.Op.TheVariants.{Place}
+use Rattle.state_codec.specs.declared.op.Op.TheVariants.{Place, Timed}
 use Rattle.state_codec.specs.declared.op.place_op.PlaceOp.{PlaceOp}
 use Rattle.state_codec.specs.declared.op.place_op.PlaceOp.TheVariants.{Put, Played, Begins, Leaves}
-use Rattle.machine_core.specs.Before.{plays_on}
+use Rattle.machine_core.specs.Before.{is_of_lists, plays_on}
 use Rattle.machine_core.specs.Changed.{same_playing}
 use Rattle.machine_core.specs.Happening.{Happening, nothing_happens}
 use Rattle.machine_core.specs.Meaning.{Meaning, Meant}
@@ -72,12 +73,26 @@ keep_ops m n =
 abbrev pub with_ops : List Op → MachineState → MachineState
 with_ops ops n = record n { saved = after_all ops n.saved }
 
--- a command with what is kept behind it
+-- a command with what is kept of the player behind it
 abbrev pub keeps : MachineState → Meaning → Meaning
 keeps m x = record x { ops = x.ops ++ keep_ops m x.after; after = with_ops (keep_ops m x.after) x.after }
 
+-- what was changed of the playlists and isn't timed yet is timed, where a clock has told the time
+abbrev pub telling_time : MachineState → List Op
+telling_time n = if changes_nothing (Timed n.clock.now) n.saved then [] else Timed n.clock.now ∷ []
+
+-- behind ops of which one changed a playlist
+abbrev pub time_ops : List Op → MachineState → List Op
+time_ops ops n = if list_any is_of_lists ops then telling_time n else []
+
+abbrev pub times : MachineState → Meaning → Meaning
+times m x =
+    let ops = if_kept m.saved.profile (time_ops x.ops x.after) in
+    record x { ops = x.ops ++ ops; after = with_ops ops x.after }
+
+-- the place first, and then the time
 abbrev pub kept : MachineState → Meant → Meant
-kept m (Ok x) = Ok (keeps m x)
+kept m (Ok x) = Ok (times m (keeps m x))
 kept m (Err refusal) = Err refusal
 
 -- an event with what is kept behind it

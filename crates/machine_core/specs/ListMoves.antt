@@ -24,9 +24,20 @@ song_moves last_first name from to zero = []
 song_moves true name from to (suc n) = Move name (from + n) (to + n) ∷ song_moves true name from to n
 song_moves false name from to (suc n) = Move name from to ∷ song_moves false name (from + 1) (to + 1) n
 
--- a block goes to a place of the rest: towards the end its last song goes first
+-- A block goes to a place of the rest: towards the end its last song goes first. Where it passes fewer songs than it has, those go the
+-- other way.
+abbrev pub moves_on : List ℕ → Span → ℕ → List ListOp
+moves_on name block to =
+    if nat_lt (to - block.start) (count_of block) then song_moves false name block.end block.start (to - block.start)
+    else song_moves true name block.start to (count_of block)
+
+abbrev pub moves_back : List ℕ → Span → ℕ → List ListOp
+moves_back name block to =
+    if nat_lt (block.start - to) (count_of block) then song_moves true name to (to + count_of block) (block.start - to)
+    else song_moves false name block.start to (count_of block)
+
 abbrev pub block_moves : List ℕ → Span → ℕ → List ListOp
-block_moves name block to = song_moves (nat_lt block.start to) name block.start to (count_of block)
+block_moves name block to = if nat_lt block.start to then moves_on name block to else moves_back name block to
 
 abbrev pub of_lists : List ListOp → List Op
 of_lists ops = map (λ op. Lists op) ops

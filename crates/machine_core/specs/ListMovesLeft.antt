@@ -1,5 +1,7 @@
 -- The songs of a block that are still to go, as private functions have them.
-use Rattle.std.specs.Prelude.{ℕ, ◌+◌, ◌-◌, List, if◌then◌else◌}
+use Rattle.std.specs.Prelude.{ℕ, ◌+◌, ◌-◌, List, [], ◌∷◌, if◌then◌else◌}
+use Rattle.state_codec.specs.OpsLists.{lists_edited}
+use Rattle.state_codec.specs.SavedState.{SavedState}
 use Rattle.state_codec.specs.declared.op.list_op.ListOp.{ListOp}
 use Rattle.machine_core.specs.ListMoves.{song_moves}
 use Rattle.machine_core.specs.declared.commands.lists.moving.SongMoves.{SongMoves}
@@ -16,3 +18,8 @@ rest_of moves = let step = if moves.last_first then 0 else 1 in record {
   to = moves.to + step;
   count = moves.count - 1;
 }
+
+-- the playlists behind ops, with the times of before
+abbrev pub all_edited : List ListOp → SavedState → SavedState
+all_edited [] s = s
+all_edited (op ∷ ops) s = all_edited ops (lists_edited op s)

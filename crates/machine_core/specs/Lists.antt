@@ -1,7 +1,7 @@
 -- The commands of the stored playlists.
 use Rattle.std.specs.Prelude.{ℕ, List, [], length, Option, Some, None, Result, Ok, Err, slice_range, if◌then◌else◌}
 use Rattle.std.specs.List.{flat_map}
-use Rattle.std.specs.Option.{ok_or}
+use Rattle.std.specs.Option.{ok_or, option_map_or}
 use Rattle.command_text.specs.AnswerNames.{playlist_lines}
 use Rattle.command_text.specs.AnswerSongs.{file_line, song_lines}
 use Rattle.command_text.specs.declared.command.lists.ListsCommand.{ListsCommand}
@@ -23,6 +23,7 @@ use Rattle.state_codec.specs.declared.op.list_op.ListOp.TheVariants.{Save, Add, 
 use Rattle.stored_lists.specs.Lists.{Stored, names_of, songs_of}
 use Rattle.stored_lists.specs.Name.{is_good_name}
 use Rattle.stored_lists.specs.Songs.{Uris}
+use Rattle.stored_lists.specs.Times.{Times, time_of}
 use Rattle.machine_core.specs.Adding.{adds, can_count}
 use Rattle.machine_core.specs.ListMoves.{adds_songs, moves_songs}
 use Rattle.machine_core.specs.Meaning.{Meaning, Meant, must, says, stands, does, edits, unless_refused, refusal_of_all}
@@ -41,9 +42,16 @@ songs_named lists name = do
   good ← list_name name
   ok_or (songs_of lists good) NoSuchPlaylist
 
+-- when a playlist was last changed, in seconds since the beginning of 1970; 0 where that isn't known
+abbrev pub time_in : Option Times → List ℕ → ℕ
+time_in times name = option_map_or (time_of name) times 0
+
+abbrev pub list_lines : Profile → Option Times → List ℕ → List ℕ
+list_lines profile times name = playlist_lines profile (time_in times name) name
+
 -- the names, by their bytes
-abbrev pub name_lines : Profile → Stored → List ℕ
-name_lines profile lists = flat_map (playlist_lines profile) (names_of lists)
+abbrev pub name_lines : Profile → Option Times → Stored → List ℕ
+name_lines profile times lists = flat_map (list_lines profile times) (names_of lists)
 
 -- a song's lines, or its URI alone where the song is gone
 abbrev pub lines_or_uri : TagMask → List ℕ → Option Row → List ℕ
@@ -105,7 +113,7 @@ lists_meaning mask (commands.Load name range to) m = do
   rows ← rows_to_load m.saved.songs songs range to (shown_of m).current
   adds to rows [] m
 lists_meaning mask (commands.Move name range to) m = moves_in name range to m
-lists_meaning mask commands.Names m = says (name_lines m.saved.profile m.saved.lists) m
+lists_meaning mask commands.Names m = says (name_lines m.saved.profile m.saved.changed m.saved.lists) m
 lists_meaning mask (commands.Remove name) m = do
   good ← list_name name
   edits (Lists (Drop good)) [] m

@@ -198,5 +198,6 @@ looks_of (commands.Lists command) m = lists_looks command m
 looks_of (commands.Stickers command) m = stickers_looks command m
 looks_of (commands.Playing command) m = choice_looks m
 looks_of (commands.Messages command) m = 0
+looks_of (commands.Pictures command) m = 0
 looks_of (commands.Session command) m = 0
 looks_of (commands.Setup command) m = 0

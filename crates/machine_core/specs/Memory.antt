@@ -72,6 +72,7 @@ messages_take_memory (messages.Unsubscribe channel) = false
 messages_take_memory command = true
 
 abbrev pub setup_takes_memory : SetupCommand → Bool
+setup_takes_memory (setup.BinaryLimit limit) = false
 setup_takes_memory setup.Nothing = false
 setup_takes_memory command = true
 
@@ -85,5 +86,6 @@ takes_memory (commands.Lists command) m = true
 takes_memory (commands.Stickers command) m = true
 takes_memory (commands.Playing command) m = playing_takes_memory command
 takes_memory (commands.Messages command) m = messages_take_memory command
+takes_memory (commands.Pictures command) m = true
 takes_memory (commands.Session command) m = false
 takes_memory (commands.Setup command) m = setup_takes_memory command

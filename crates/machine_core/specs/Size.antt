@@ -16,15 +16,24 @@ within profile size (Err refusal) = Err refusal
 within profile size (Ok x) = if nat_le (size + length (ops_bytes profile x.ops)) max_request_bytes then Ok x else Err RequestTooLarge
 
 -- how many bytes are taken at most by what is kept of the player behind one command
-abbrev pub longest_keep : ℕ
-longest_keep = 24
+abbrev pub longest_place : ℕ
+longest_place = 24
 
--- so many bytes are kept free for it
+-- and how many by it and by the time of the playlists that the command changed
+abbrev pub longest_keep : ℕ
+longest_keep = longest_place + 9
+
+-- and by the time alone
+abbrev pub time_room : Profile → ℕ
+time_room Named = 0
+time_room Wide = 9
+
+-- so many bytes are kept free for both
 abbrev pub room_by : Profile → ℕ
 room_by Named = 0
 room_by Wide = longest_keep
 
--- Under the wide profile room to keep the player's place is taken before a command: without it none is performed.
+-- Under the wide profile room to keep the player's place, and the playlists' time, is taken before a command: without it none is performed.
 abbrev pub within_room : Profile → ℕ → Meant → Meant
 within_room Named size meant = within Named size meant
 within_room Wide size meant =

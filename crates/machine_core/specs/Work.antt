@@ -26,9 +26,14 @@ command_room = 72
 abbrev pub HasRoom : ℕ → Work → Type 0
 HasRoom bytes work = vec_len work.text + bytes ≤ vec_capacity work.text
 
--- how many ops keep the player's place behind one command, at most
+-- how many ops keep the player's place and the playlists' time behind one command, at most
 abbrev pub keep_count : ℕ
-keep_count = 3
+keep_count = 4
+
+-- a time can be added without memory, within the limit
+pub record CanTime (work : Work) : Type 0 where
+  pub room : vec_len work.ops + 1 ≤ vec_capacity work.ops
+  pub fits : work.size + 9 ≤ max_request_bytes
 
 -- what keeps the place can be added without memory
 abbrev pub CanKeep : Work → Type 0

@@ -96,7 +96,7 @@ impl Machine {
     }
 }
 
-fn have_list_op(ops: &[Op]) -> bool
+pub(crate) fn have_list_op(ops: &[Op]) -> bool
     ensures { result ≡ list_any is_of_lists ops.now }
 {
     ops.iter().any(|op| matches!(op, Op::List(_)))

@@ -30,7 +30,8 @@ impl Machine {
     /// which the request would look at more than it may is refused before it looks at anything. Refused, or without memory, it leaves
     /// machine and answer as they were.
     ///
-    /// Where it changes what plays, the player's place is kept behind it: room for that is taken before.
+    /// Where it changes what plays, the player's place is kept behind it, and where it changes playlists, the time of that: room for both
+    /// is taken before.
     ///
     /// Memory is taken for the lines of a command, with the room behind them, for what it looks up and for what it changes; `NoMemory`
     /// comes of no command that does nothing of these.
@@ -54,7 +55,7 @@ impl Machine {
         self.perform_kept(alloc, mask, command, work)
     }
 
-    // Performs it, and keeps the player's place behind it.
+    // Performs it, and keeps the player's place and the playlists' time behind it.
     fn perform_kept(
         &mut self,
         alloc: Global,
@@ -73,10 +74,11 @@ impl Machine {
         let made = work.ops.len();
         self.perform_aside(alloc, mask, command, profile, work)?;
         work.keep_place(self, profile, &before);
+        work.keep_time(self, profile, made);
         Ok(self.changed_since(&before, &work.ops[made..]))
     }
 
-    // Performs it, with room to keep the place left free behind it.
+    // Performs it, with room to keep place and time left free behind it.
     fn perform_aside(
         &mut self,
         alloc: Global,
@@ -118,7 +120,7 @@ impl Machine {
             Command::Stickers(command) => self.perform_stickers(alloc, command, work),
             Command::Playing(command) => self.perform_playing(alloc, mask, command, work),
             // The daemon performs these.
-            Command::Messages(_) | Command::Session(_) => Ok(()),
+            Command::Messages(_) | Command::Pictures(_) | Command::Session(_) => Ok(()),
             Command::Setup(command) => self.perform_setup(command, work),
         }
     }

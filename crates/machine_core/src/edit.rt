@@ -166,7 +166,7 @@ fn could_change_the_shown(op: &Op) -> bool
     ensures { result ≡ false → (m : MachineState) → shown_of (record m { saved = after op.now m.saved }) ≡ shown_of m }
 {
     match op {
-        Op::SetVolume(_) | Op::List(_) | Op::Sticker(_) | Op::Place(_) => false,
+        Op::SetVolume(_) | Op::List(_) | Op::Sticker(_) | Op::Place(_) | Op::Timed(_) => false,
         Op::SetOption(_) | Op::SetOrder(_) | Op::Queue(_) | Op::Batch(_) => true,
     }
 }

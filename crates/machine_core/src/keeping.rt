@@ -1,5 +1,6 @@
-// What is kept of the player: behind each change of what plays, and as a song plays on; and how a life goes on from it.
-ghost use Rattle.std.specs.Prelude.{◌≡◌, ◌+◌, ◌≤◌, ◌++◌, ◌∷◌, ◌==◌, [], length, vec_len, vec_capacity, IfOk, OnErr, not};
+// What is kept of the player: behind each change of what plays, and as a song plays on; and how a life goes on from it. And when playlists
+// were changed, behind a command that changes them.
+ghost use Rattle.std.specs.Prelude.{◌≡◌, ◌+◌, ◌≤◌, ◌++◌, ◌∷◌, ◌==◌, [], drop, length, vec_len, vec_capacity, IfOk, OnErr, not};
 ghost use Rattle.std.specs.List.{list_any};
 ghost use Rattle.std.specs.Option.{option_to_list};
 ghost use Rattle.profile.specs.declared.profile.Profile.{Profile as AProfile};
@@ -7,11 +8,11 @@ ghost use Rattle.state_codec.specs.OpsPlace.{stands_in};
 ghost use Rattle.state_codec.specs.Spelling.{ops_bytes};
 ghost use Rattle.machine_core.specs.Happening.{HasHappened};
 ghost use Rattle.machine_core.specs.Keeping.{goes_on_since, if_kept, keep_ops_since, leave_ops, place_ops, put_op, round_ops, telling_ops};
-ghost use Rattle.machine_core.specs.Keeping.{when_kept, when_resumed, with_ops};
-ghost use Rattle.machine_core.specs.Size.{longest_keep};
+ghost use Rattle.machine_core.specs.Keeping.{telling_time, time_ops, when_kept, when_resumed, with_ops};
+ghost use Rattle.machine_core.specs.Size.{longest_place};
 ghost use Rattle.machine_core.specs.Work.{keep_count};
 
-use crate::changed::Before;
+use crate::changed::{Before, have_list_op};
 use crate::happened::Happened;
 use crate::machine::Machine;
 use crate::scanning::nothing;
@@ -109,7 +110,9 @@ impl Machine {
         ensures machine { self.new ≡ with_ops (place_ops before self.old.player self.old.saved self.old.saved.place) self.old }
         ensures bytes { (profile : AProfile) → result
             ≡ length (ops_bytes profile (place_ops before self.old.player self.old.saved self.old.saved.place)) }
-        ensures within { result ≤ longest_keep }
+        ensures room { vec_capacity ops.new ≡ vec_capacity ops.old }
+        ensures more { vec_len ops.new ≤ vec_len ops.old + 3 }
+        ensures within { result ≤ longest_place }
     {
         let Some(place) = self.saved.place() else {
             return 0;
@@ -149,7 +152,9 @@ impl Machine {
             (place_ops before self.old.player self.old.saved self.old.saved.place)) self.old }
         ensures bytes { (any : AProfile) → result
             ≡ length (ops_bytes any (if_kept profile (place_ops before self.old.player self.old.saved self.old.saved.place))) }
-        ensures within { result ≤ longest_keep }
+        ensures room { vec_capacity ops.new ≡ vec_capacity ops.old }
+        ensures more { vec_len ops.new ≤ vec_len ops.old + 3 }
+        ensures within { result ≤ longest_place }
     {
         match profile {
             Profile::Named => 0,
@@ -168,12 +173,52 @@ impl Machine {
         ensures ops { ops.new.items ≡ ops.old.items ++ if_kept profile (keep_ops_since before.now self.old) }
         ensures machine { self.new ≡ with_ops (if_kept profile (keep_ops_since before.now self.old)) self.old }
         ensures bytes { (any : AProfile) → result ≡ length (ops_bytes any (if_kept profile (keep_ops_since before.now self.old))) }
-        ensures within { result ≤ longest_keep }
+        ensures room { vec_capacity ops.new ≡ vec_capacity ops.old }
+        ensures more { vec_len ops.new ≤ vec_len ops.old + 3 }
+        ensures within { result ≤ longest_place }
     {
         if self.goes_on_since(before) {
             return 0;
         }
         self.put_by(profile, before.current(), ops)
+    }
+
+    // Tells the time of the playlists that were changed and aren't timed yet. It answers how many bytes that takes.
+    fn tell_time(&mut self, ops: &mut Vec<Op>) -> usize
+        requires { vec_len ops.old + 1 ≤ vec_capacity ops.old }
+        ensures ops { ops.new.items ≡ ops.old.items ++ telling_time self.old }
+        ensures machine { self.new ≡ with_ops (telling_time self.old) self.old }
+        ensures bytes { (any : AProfile) → result ≡ length (ops_bytes any (telling_time self.old)) }
+        ensures within { result ≤ 9 }
+    {
+        let now = self.clock.now;
+        if !self.saved.would_time(now) {
+            return 0;
+        }
+        self.saved.time_lists(now);
+        ops.push_reserved(Op::Timed(now));
+        9
+    }
+
+    // The same behind ops of which one changed a playlist, where the profile keeps times; the ops of the command begin at this one.
+    pub(crate) fn time_since(&mut self, profile: Profile, made: usize, ops: &mut Vec<Op>) -> usize
+        requires in_range { made ≤ vec_len ops.old }
+        requires room { profile ≡ Profile.Wide → vec_len ops.old + 1 ≤ vec_capacity ops.old }
+        ensures ops { ops.new.items ≡ ops.old.items ++ if_kept profile (time_ops (drop made ops.old.items) self.old) }
+        ensures machine { self.new ≡ with_ops (if_kept profile (time_ops (drop made ops.old.items) self.old)) self.old }
+        ensures bytes { (any : AProfile) → result
+            ≡ length (ops_bytes any (if_kept profile (time_ops (drop made ops.old.items) self.old))) }
+        ensures within { result ≤ 9 }
+    {
+        match profile {
+            Profile::Named => 0,
+            Profile::Wide => {
+                if !have_list_op(&ops[made..]) {
+                    return 0;
+                }
+                self.tell_time(ops)
+            }
+        }
     }
 
     // Keeps where the player is, where this ticket counts.
@@ -231,11 +276,11 @@ impl Machine {
 }
 
 impl Work {
-    ghost use Rattle.std.specs.Prelude.{◌≡◌, ◌+◌, ◌≤◌, ◌++◌, length};
+    ghost use Rattle.std.specs.Prelude.{◌≡◌, ◌+◌, ◌≤◌, ◌++◌, drop, length, vec_len};
     ghost use Rattle.state_codec.specs.Spelling.{ops_bytes};
-    ghost use Rattle.machine_core.specs.Keeping.{if_kept, keep_ops_since, with_ops};
+    ghost use Rattle.machine_core.specs.Keeping.{if_kept, keep_ops_since, time_ops, with_ops};
     ghost use Rattle.machine_core.specs.Size.{longest_keep, max_request_bytes};
-    ghost use Rattle.machine_core.specs.Work.{AddsOps, CanKeepBy};
+    ghost use Rattle.machine_core.specs.Work.{AddsOps, CanKeepBy, CanTime};
 
     // Adds what is kept of the player behind a command, which has left the room for it: under the named profile nothing is.
     pub(crate) fn keep_place(&mut self, machine: &mut Machine, profile: Profile, before: &Before)
@@ -245,8 +290,22 @@ impl Work {
             AddsOps ops (length (ops_bytes profile ops)) self.old self.new }
         ensures machine { machine.new ≡ with_ops (if_kept profile (keep_ops_since before.now machine.old)) machine.old }
         ensures text { self.new.text ≡ self.old.text }
+        ensures leaves { profile ≡ Profile.Wide → CanTime self.new }
     {
         let bytes = machine.keep_since(profile, before, &mut self.ops);
+        self.size += bytes;
+    }
+
+    // Adds when the command changed playlists, whose ops begin at this one, if it did; the place, kept in front of it, has left the room.
+    pub(crate) fn keep_time(&mut self, machine: &mut Machine, profile: Profile, made: usize)
+        requires in_range { made ≤ vec_len self.old.ops }
+        requires room { profile ≡ Profile.Wide → CanTime self.old }
+        ensures ops { let ops = if_kept profile (time_ops (drop made self.old.ops.items) machine.old) in
+            AddsOps ops (length (ops_bytes profile ops)) self.old self.new }
+        ensures machine { machine.new ≡ with_ops (if_kept profile (time_ops (drop made self.old.ops.items) machine.old)) machine.old }
+        ensures text { self.new.text ≡ self.old.text }
+    {
+        let bytes = machine.time_since(profile, made, &mut self.ops);
         self.size += bytes;
     }
 }

@@ -120,6 +120,7 @@ impl Machine {
             Command::Stickers(command) => self.stickers_looks(command),
             Command::Playing(_) => self.choice_looks(),
             Command::Messages(_) => 0,
+            Command::Pictures(_) => 0,
             Command::Session(_) => 0,
             Command::Setup(_) => 0,
         }

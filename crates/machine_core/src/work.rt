@@ -15,11 +15,11 @@ pub const MAX_REQUEST_BYTES: usize = 2_097_152;
 /// No client gets an answer of more bytes: whatever makes it longer is the last that is done of its request.
 pub(crate) const LONGEST_ANSWER: usize = 8_388_608;
 
-/// What is kept of the player behind one command takes at most so many bytes ..
-pub(crate) const LONGEST_KEEP: usize = 24;
+/// What is kept of the player and of the playlists' time behind one command takes at most so many bytes ..
+pub(crate) const LONGEST_KEEP: usize = 33;
 
 /// .. and so many ops.
-pub(crate) const KEEP_COUNT: usize = 3;
+pub(crate) const KEEP_COUNT: usize = 4;
 
 /// Room for `list_OK` and the longest `ACK` line of want of memory behind it.
 const COMMAND_ROOM: usize = 72;

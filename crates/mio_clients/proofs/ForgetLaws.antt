@@ -5,18 +5,25 @@ use Rattle.command_text.specs.declared.request.Request.{Request}
 use Rattle.mio_clients.specs.declared.event.ClientEvent.{ClientEvent}
 use Rattle.mio_clients.specs.declared.event.ClientEvent.TheVariants as events
 use Rattle.mio_clients.specs.Events.{asked_by_event, asked_in, is_request_of, without}
-use Rattle.mio_clients.specs.Waiting.{QuietBehind}
+use Rattle.mio_clients.specs.Waiting.{IsQuiet, QuietBehind}
 
 own_request : (c n : ℕ) (r : Request) (rest : List ClientEvent) (t : Bool) → (n == c) ≡ t → asked_in c rest ≡ []
     → asked_in c (cond t [] (events.Request n r ∷ []) ++ rest) ≡ []
 own_request c n r rest true e none = none
 own_request c n r rest false e none = ap (λ (t : Bool). cond t (r ∷ []) [] ++ asked_in c rest) e ∙ none
 
+own_sought : (c n : ℕ) (r : Request) (rest : List ClientEvent) (t : Bool) → (n == c) ≡ t → asked_in c rest ≡ []
+    → asked_in c (cond t [] (events.Seeking n r ∷ []) ++ rest) ≡ []
+own_sought c n r rest true e none = none
+own_sought c n r rest false e none = ap (λ (t : Bool). cond t (r ∷ []) [] ++ asked_in c rest) e ∙ none
+
 -- a client whose requests were let go of asks for nothing
 pub asked_without_own : (c : ℕ) (es : List ClientEvent) → asked_in c (without c es) ≡ []
 asked_without_own c [] = refl
 asked_without_own c (events.Connect n ∷ es) = asked_without_own c es
 asked_without_own c (events.Request n r ∷ es) = own_request c n r (without c es) (n == c) refl (asked_without_own c es)
+asked_without_own c (events.Seeking n r ∷ es) = own_sought c n r (without c es) (n == c) refl (asked_without_own c es)
+asked_without_own c (events.Picture n told ∷ es) = asked_without_own c es
 asked_without_own c (events.Gone n ∷ es) = asked_without_own c es
 
 other_request : (c d n : ℕ) (r : Request) (rest es : List ClientEvent) (t : Bool) → (n == c) ≡ t → c ≢ d
@@ -28,12 +35,24 @@ other_request c d n r rest es true e ne same =
     same ∙ sym (ap (λ (t : Bool). cond t (r ∷ []) [] ++ asked_in d es) none)
 other_request c d n r rest es false e ne same = ap (λ t. asked_by_event d (events.Request n r) ++ t) same
 
+other_sought : (c d n : ℕ) (r : Request) (rest es : List ClientEvent) (t : Bool) → (n == c) ≡ t → c ≢ d
+    → asked_in d rest ≡ asked_in d es
+    → asked_in d (cond t [] (events.Seeking n r ∷ []) ++ rest) ≡ asked_by_event d (events.Seeking n r) ++ asked_in d es
+other_sought c d n r rest es true e ne same =
+    let is : n ≡ c = eqb-true n c e in
+    let none : (n == d) ≡ false = ne_eqb n d (λ h. ne (sym is ∙ h)) in
+    same ∙ sym (ap (λ (t : Bool). cond t (r ∷ []) [] ++ asked_in d es) none)
+other_sought c d n r rest es false e ne same = ap (λ t. asked_by_event d (events.Seeking n r) ++ t) same
+
 -- the others ask for what they did
 pub asked_without : (c d : ℕ) (es : List ClientEvent) → c ≢ d → asked_in d (without c es) ≡ asked_in d es
 asked_without c d [] ne = refl
 asked_without c d (events.Connect n ∷ es) ne = asked_without c d es ne
 asked_without c d (events.Request n r ∷ es) ne =
     other_request c d n r (without c es) es (n == c) refl ne (asked_without c d es ne)
+asked_without c d (events.Seeking n r ∷ es) ne =
+    other_sought c d n r (without c es) es (n == c) refl ne (asked_without c d es ne)
+asked_without c d (events.Picture n told ∷ es) ne = asked_without c d es ne
 asked_without c d (events.Gone n ∷ es) ne = asked_without c d es ne
 
 none_but : (c d : ℕ) (es : List ClientEvent) (t : Bool) → (c == d) ≡ t → asked_in d es ≡ [] → asked_in d (without c es) ≡ []
@@ -44,33 +63,44 @@ none_but c d es false e none = asked_without c d es (eqb-false c d e) ∙ none
 pub none_without : (c d : ℕ) (es : List ClientEvent) → asked_in d es ≡ [] → asked_in d (without c es) ≡ []
 none_without c d es none = none_but c d es (c == d) refl none
 
-quiet_more : (n : ℕ) (es : List ClientEvent) → QuietBehind n es → QuietBehind (suc n) es
-quiet_more n [] h = tt
-quiet_more zero (e ∷ es) h = h.1
-quiet_more (suc n) (e ∷ es) h = quiet_more n es h
+quiet_more : (waits : Bool) (n : ℕ) (es : List ClientEvent) → QuietBehind waits n es → QuietBehind waits (suc n) es
+quiet_more waits n [] h = tt
+quiet_more waits zero (e ∷ es) h = h.1
+quiet_more waits (suc n) (e ∷ es) h = quiet_more waits n es h
 
-quiet_request : (n : ℕ) (e : ClientEvent) (rest : List ClientEvent) (t : Bool) → QuietBehind n rest
-    → QuietBehind (suc n) (cond t [] (e ∷ []) ++ rest)
-quiet_request n e rest true h = quiet_more n rest h
-quiet_request n e rest false h = h
+quiet_request : (waits : Bool) (n : ℕ) (e : ClientEvent) (rest : List ClientEvent) (t : Bool) → QuietBehind waits n rest
+    → QuietBehind waits (suc n) (cond t [] (e ∷ []) ++ rest)
+quiet_request waits n e rest true h = quiet_more waits n rest h
+quiet_request waits n e rest false h = h
+
+quiet_one : (waits : Bool) (e : ClientEvent) (rest : List ClientEvent) (t : Bool) → IsQuiet waits e → QuietBehind waits zero rest
+    → QuietBehind waits zero (cond t [] (e ∷ []) ++ rest)
+quiet_one waits e rest true quiet h = h
+quiet_one waits e rest false quiet h = (quiet, h)
 
 -- what asked for nothing does so still
-pub quiet_without : (c n : ℕ) (es : List ClientEvent) → QuietBehind n es → QuietBehind n (without c es)
-quiet_without c n [] h = tt
-quiet_without c zero (events.Connect m ∷ es) h = (tt, quiet_without c zero es h.1)
-quiet_without c zero (events.Request m r ∷ es) h = absurd h.0
-quiet_without c zero (events.Gone m ∷ es) h = (tt, quiet_without c zero es h.1)
-quiet_without c (suc n) (events.Connect m ∷ es) h = quiet_without c n es h
-quiet_without c (suc n) (events.Request m r ∷ es) h =
-    quiet_request n (events.Request m r) (without c es) (m == c) (quiet_without c n es h)
-quiet_without c (suc n) (events.Gone m ∷ es) h = quiet_without c n es h
+pub quiet_without : (waits : Bool) (c n : ℕ) (es : List ClientEvent) → QuietBehind waits n es → QuietBehind waits n (without c es)
+quiet_without waits c n [] h = tt
+quiet_without waits c zero (events.Connect m ∷ es) h = (tt, quiet_without waits c zero es h.1)
+quiet_without waits c zero (events.Request m r ∷ es) h = absurd h.0
+quiet_without waits c zero (events.Seeking m r ∷ es) h =
+    quiet_one waits (events.Seeking m r) (without c es) (m == c) h.0 (quiet_without waits c zero es h.1)
+quiet_without waits c zero (events.Picture m told ∷ es) h = (tt, quiet_without waits c zero es h.1)
+quiet_without waits c zero (events.Gone m ∷ es) h = (tt, quiet_without waits c zero es h.1)
+quiet_without waits c (suc n) (events.Connect m ∷ es) h = quiet_without waits c n es h
+quiet_without waits c (suc n) (events.Request m r ∷ es) h =
+    quiet_request waits n (events.Request m r) (without c es) (m == c) (quiet_without waits c n es h)
+quiet_without waits c (suc n) (events.Seeking m r ∷ es) h =
+    quiet_request waits n (events.Seeking m r) (without c es) (m == c) (quiet_without waits c n es h)
+quiet_without waits c (suc n) (events.Picture m told ∷ es) h = quiet_without waits c n es h
+quiet_without waits c (suc n) (events.Gone m ∷ es) h = quiet_without waits c n es h
 
-drop_more : (n : ℕ) (es : List ClientEvent) (e : ClientEvent) → n ≤ length es → drop n (es ++ e ∷ []) ≡ drop n es ++ e ∷ []
+pub drop_more : (n : ℕ) (es : List ClientEvent) (e : ClientEvent) → n ≤ length es → drop n (es ++ e ∷ []) ≡ drop n es ++ e ∷ []
 drop_more zero es e within = refl
 drop_more (suc n) [] e within = absurd (omega (arith, within))
 drop_more (suc n) (x ∷ es) e within = drop_more n es e (omega (arith, within))
 
-take_more : (n : ℕ) (es : List ClientEvent) (e : ClientEvent) → n ≤ length es → take n (es ++ e ∷ []) ≡ take n es
+pub take_more : (n : ℕ) (es : List ClientEvent) (e : ClientEvent) → n ≤ length es → take n (es ++ e ∷ []) ≡ take n es
 take_more zero es e within = refl
 take_more (suc n) [] e within = absurd (omega (arith, within))
 take_more (suc n) (x ∷ es) e within = ap (λ t. x ∷ t) (take_more n es e (omega (arith, within)))

@@ -102,14 +102,14 @@ pop_none_later (Some e) old new c is none = nothing_right (asked_by_event c e) (
 
 -- ---- events that are left
 
-pub quiet_more : (n : ℕ) (es : List ClientEvent) → QuietBehind n es → QuietBehind (suc n) es
-quiet_more zero [] h = tt
-quiet_more zero (e ∷ es) h = h.1
-quiet_more (suc n) [] h = tt
-quiet_more (suc n) (e ∷ es) h = quiet_more n es h
+pub quiet_more : (waits : Bool) (n : ℕ) (es : List ClientEvent) → QuietBehind waits n es → QuietBehind waits (suc n) es
+quiet_more waits zero [] h = tt
+quiet_more waits zero (e ∷ es) h = h.1
+quiet_more waits (suc n) [] h = tt
+quiet_more waits (suc n) (e ∷ es) h = quiet_more waits n es h
 
-pub quiet_as : (m n : ℕ) (es : List ClientEvent) → m ≡ n → QuietBehind m es → QuietBehind n es
-quiet_as m n es same h = subst (λ (t : ℕ). QuietBehind t es) same h
+pub quiet_as : (waits : Bool) (m n : ℕ) (es : List ClientEvent) → m ≡ n → QuietBehind waits m es → QuietBehind waits n es
+quiet_as waits m n es same h = subst (λ (t : ℕ). QuietBehind waits t es) same h
 
 -- ---- how many events are in a group
 
@@ -143,6 +143,8 @@ pub group_most : (n : ℕ) (es : List ClientEvent) → group_len n es ≤ n
 group_most zero es = omega arith
 group_most (suc n) [] = omega arith
 group_most (suc n) (events.Connect client ∷ es) = omega arith
+group_most (suc n) (events.Seeking client request ∷ es) = omega arith
+group_most (suc n) (events.Picture client told ∷ es) = omega arith
 group_most (suc n) (events.Gone client ∷ es) = omega arith
 group_most (suc n) (events.Request client (Single line) ∷ es) = (let more = group_most n es in omega (arith, more))
 group_most (suc n) (events.Request client (requests.List lines) ∷ es) = omega arith
@@ -154,6 +156,8 @@ pub group_few : (n : ℕ) (es : List ClientEvent) → group_len n es ≤ length 
 group_few zero es = omega arith
 group_few (suc n) [] = omega arith
 group_few (suc n) (events.Connect client ∷ es) = omega arith
+group_few (suc n) (events.Seeking client request ∷ es) = omega arith
+group_few (suc n) (events.Picture client told ∷ es) = omega arith
 group_few (suc n) (events.Gone client ∷ es) = omega arith
 group_few (suc n) (events.Request client (Single line) ∷ es) = (let more = group_few n es in omega (arith, more))
 group_few (suc n) (events.Request client (requests.List lines) ∷ es) = omega arith
@@ -161,19 +165,21 @@ group_few (suc n) (events.Request client (OkList lines) ∷ es) = omega arith
 group_few (suc n) (events.Request client Noidle ∷ es) = (let more = group_few n es in omega (arith, more))
 
 -- the requests of a group are among those that are left
-pub group_left : (limit n : ℕ) (es : List ClientEvent) → QuietBehind n es → group_len limit es ≤ n
-group_left zero n es h = omega arith
-group_left (suc limit) n [] h = omega arith
-group_left (suc limit) n (events.Connect client ∷ es) h = omega arith
-group_left (suc limit) n (events.Gone client ∷ es) h = omega arith
-group_left (suc limit) zero (events.Request client (Single line) ∷ es) h = absurd h.0
-group_left (suc limit) zero (events.Request client (requests.List lines) ∷ es) h = absurd h.0
-group_left (suc limit) zero (events.Request client (OkList lines) ∷ es) h = absurd h.0
-group_left (suc limit) zero (events.Request client Noidle ∷ es) h = absurd h.0
-group_left (suc limit) (suc n) (events.Request client (Single line) ∷ es) h = (let more = group_left limit n es h in omega (arith, more))
-group_left (suc limit) (suc n) (events.Request client (requests.List lines) ∷ es) h = omega arith
-group_left (suc limit) (suc n) (events.Request client (OkList lines) ∷ es) h = omega arith
-group_left (suc limit) (suc n) (events.Request client Noidle ∷ es) h = (let more = group_left limit n es h in omega (arith, more))
+pub group_left : (waits : Bool) (limit n : ℕ) (es : List ClientEvent) → QuietBehind waits n es → group_len limit es ≤ n
+group_left waits zero n es h = omega arith
+group_left waits (suc limit) n [] h = omega arith
+group_left waits (suc limit) n (events.Connect client ∷ es) h = omega arith
+group_left waits (suc limit) n (events.Seeking client request ∷ es) h = omega arith
+group_left waits (suc limit) n (events.Picture client told ∷ es) h = omega arith
+group_left waits (suc limit) n (events.Gone client ∷ es) h = omega arith
+group_left waits (suc limit) zero (events.Request client (Single line) ∷ es) h = absurd h.0
+group_left waits (suc limit) zero (events.Request client (requests.List lines) ∷ es) h = absurd h.0
+group_left waits (suc limit) zero (events.Request client (OkList lines) ∷ es) h = absurd h.0
+group_left waits (suc limit) zero (events.Request client Noidle ∷ es) h = absurd h.0
+group_left waits (suc limit) (suc n) (events.Request client (Single line) ∷ es) h = (let more = group_left waits limit n es h in omega (arith, more))
+group_left waits (suc limit) (suc n) (events.Request client (requests.List lines) ∷ es) h = omega arith
+group_left waits (suc limit) (suc n) (events.Request client (OkList lines) ∷ es) h = omega arith
+group_left waits (suc limit) (suc n) (events.Request client Noidle ∷ es) h = (let more = group_left waits limit n es h in omega (arith, more))
 
 -- ---- the clients of events
 
@@ -258,10 +264,10 @@ parted_lost all turns true rest h = (h.0 ∷ [], h.1)
 
 -- one event is many
 pub many_one : (es fs : List ClientEvent) → TakesFirst es fs → TakesMany 1 es fs
-many_one es fs takes = λ n some h. takes_one n (n - 1) es fs (omega (arith, some)) takes h
+many_one es fs takes = λ waits n some h. takes_one waits n (n - 1) es fs (omega (arith, some)) takes h
 
 pub many_then : (k : ℕ) (es fs gs : List ClientEvent) → TakesMany k es fs → StaysQuiet fs gs → TakesMany k es gs
-many_then k es fs gs takes stays = λ n some h. stays (n - k) (takes n some h)
+many_then k es fs gs takes stays = λ waits n some h. stays waits (n - k) (takes waits n some h)
 
 -- how many events were parted
 pub parted_len : (all front lost rest : List Event) → all ≡ front ++ (lost ++ rest) → length all ≡ length front + (length lost + length rest)
@@ -291,7 +297,7 @@ module _ {S : Type 0} where
     same = refl;
     asked = λ c. refl;
     whose = tt;
-    quiet = λ n h. quiet_as (n + 0) n a.events (omega arith) h;
+    quiet = λ waits n h. quiet_as waits (n + 0) n a.events (omega arith) h;
   }
 
   pub takes_begin : (a : ConnectionsState S) (xs : List Event) (ids : List ℕ) → xs ≡ [] → ids ≡ [] → TakesGroup a a xs ids
@@ -311,10 +317,10 @@ module _ {S : Type 0} where
         (ap (asked_in c) popped ∙ ap (λ t. t ++ asked_in c p.events) (sym (asks c)))
         ∙ sym (asked_end c xs x (asked_in c p.events)));
     whose = clients_end xs ids x id takes.whose of;
-    quiet = λ n h.
+    quiet = λ waits n h.
         let longer : n + length (xs ++ x ∷ []) ≡ suc n + length xs = omega (arith, length-append xs (x ∷ [])) in
-        let one = takes.quiet (suc n) (quiet_as (n + length (xs ++ x ∷ [])) (suc n + length xs) a.events longer h) in
-        subst (λ (l : List ClientEvent). QuietBehind (suc n) l) popped one;
+        let one = takes.quiet waits (suc n) (quiet_as waits (n + length (xs ++ x ∷ [])) (suc n + length xs) a.events longer h) in
+        subst (λ (l : List ClientEvent). QuietBehind waits (suc n) l) popped one;
   }
 
   pub takes_more_as : (a b p : ConnectionsState S) (xs ys : List Event) (ids js : List ℕ) (e : ClientEvent) (x : Event) (id : ℕ)
@@ -331,7 +337,7 @@ module _ {S : Type 0} where
   puts_nothing a event none = record {
     same = refl;
     asked = λ c. ap (λ t. t ++ asked_in c a.events) (sym (none c));
-    quiet = λ n h. quiet_as (suc n) (n + 1) a.events (omega arith) (quiet_more n a.events h);
+    quiet = λ waits n h. quiet_as waits (suc n) (n + 1) a.events (omega arith) (quiet_more waits n a.events h);
     room = omega arith;
   }
 
@@ -343,8 +349,8 @@ module _ {S : Type 0} where
       record {
         same = same ∙ ap (λ (l : List ClientEvent). let t : ConnectionsState S = record a { events = l; room = b.room } in t) (sym there);
         asked = λ c. ap (asked_in c) there ∙ ap (λ t. t ++ asked_in c a.events) (asks c);
-        quiet = λ n h. subst (λ (l : List ClientEvent). QuietBehind (n + 1) l) (sym there)
-            (quiet_as (suc n) (n + 1) (e ∷ a.events) (omega arith) h);
+        quiet = λ waits n h. subst (λ (l : List ClientEvent). QuietBehind waits (n + 1) l) (sym there)
+            (quiet_as waits (suc n) (n + 1) (e ∷ a.events) (omega arith) h);
         room = room;
       }
 
@@ -352,7 +358,8 @@ module _ {S : Type 0} where
   pub record IsPuttingBack (first now : ConnectionsState S) (all rest : List Event) : Type 0 where
     pub same : now ≡ record first { events = now.events; room = now.room }
     pub asked : (c : ℕ) → asked_of_all c rest ++ asked_in c now.events ≡ asked_of_all c all ++ asked_in c first.events
-    pub quiet : (n m : ℕ) → m + length rest ≡ length all → QuietBehind n first.events → QuietBehind (n + m) now.events
+    pub quiet : (waits : Bool) (n m : ℕ) → m + length rest ≡ length all → QuietBehind waits n first.events
+        → QuietBehind waits (n + m) now.events
     pub few : length rest ≤ length all
     pub known : (c : ℕ) → now.last_id < c → asked_of_all c rest ≡ []
     pub room : slab_len now.clients + length rest ≤ now.room
@@ -362,7 +369,7 @@ module _ {S : Type 0} where
   putting_begins a all known room = record {
     same = refl;
     asked = λ c. refl;
-    quiet = λ n m is h. quiet_as n (n + m) a.events (omega (arith, is)) h;
+    quiet = λ waits n m is h. quiet_as waits n (n + m) a.events (omega (arith, is)) h;
     few = omega arith;
     known = known;
     room = room;
@@ -378,8 +385,8 @@ module _ {S : Type 0} where
         same = one.same ∙ ap (λ (s : ConnectionsState S). let t : ConnectionsState S = record s { events = d.events; room = d.room } in t) so_far.same;
         asked = λ c. ap (λ t. asked_of_all c fewer ++ t) (one.asked c) ∙ (sym (asked_end c fewer event (asked_in c b.events))
             ∙ (ap (λ (l : List Event). asked_of_all c l ++ asked_in c b.events) (sym is) ∙ so_far.asked c));
-        quiet = λ n m sum h. quiet_as (n + (m - 1) + 1) (n + m) d.events (omega (arith, sum, longer, so_far.few))
-            (one.quiet (n + (m - 1)) (so_far.quiet n (m - 1) (omega (arith, sum, longer, so_far.few)) h));
+        quiet = λ waits n m sum h. quiet_as waits (n + (m - 1) + 1) (n + m) d.events (omega (arith, sum, longer, so_far.few))
+            (one.quiet waits (n + (m - 1)) (so_far.quiet waits n (m - 1) (omega (arith, sum, longer, so_far.few)) h));
         few = omega (arith, longer, so_far.few);
         known = λ c later. asked_none_last c rest fewer event is (so_far.known c (omega (arith, later, same_last)));
         room = omega (arith, longer, so_far.room, one.room, same_len);
@@ -390,20 +397,20 @@ module _ {S : Type 0} where
   putting_ends a b all [] none so_far = record {
     same = so_far.same;
     asked = so_far.asked;
-    quiet = λ n h. so_far.quiet n (length all) (omega arith) h;
+    quiet = λ waits n h. so_far.quiet waits n (length all) (omega arith) h;
   }
 
   -- ---- the whole group
 
   -- so many of a group were taken for good
   pub group_quiet : (limit : ℕ) (a p b : ConnectionsState S) (all rest : List Event) (ids : List ℕ) → TakesGroup a p all ids → PutsBack p b rest
-      → length all ≡ group_len limit a.events → length rest ≤ length all → (n : ℕ) → QuietBehind n a.events
-      → QuietBehind (n - (length all - length rest)) b.events
-  group_quiet limit a p b all rest ids takes puts whole fewer n h =
-      let among = group_left limit n a.events h in
-      quiet_as (n - length all + length rest) (n - (length all - length rest)) b.events (omega (arith, whole, fewer, among))
-      (puts.quiet (n - length all)
-      (takes.quiet (n - length all) (quiet_as n (n - length all + length all) a.events (omega (arith, whole, among)) h)))
+      → length all ≡ group_len limit a.events → length rest ≤ length all → (waits : Bool) (n : ℕ) → QuietBehind waits n a.events
+      → QuietBehind waits (n - (length all - length rest)) b.events
+  group_quiet limit a p b all rest ids takes puts whole fewer waits n h =
+      let among = group_left waits limit n a.events h in
+      quiet_as waits (n - length all + length rest) (n - (length all - length rest)) b.events (omega (arith, whole, fewer, among))
+      (puts.quiet waits (n - length all)
+      (takes.quiet waits (n - length all) (quiet_as waits n (n - length all + length all) a.events (omega (arith, whole, among)) h)))
 
   pub same_between : (a p b : ConnectionsState S) (all rest : List Event) (ids : List ℕ) → TakesGroup a p all ids → PutsBack p b rest
       → b ≡ record a { events = b.events; room = b.room }

@@ -76,6 +76,8 @@ popped_none (Some event) old new popped c none =
 pub asks_nothing : (event : ClientEvent) (c : ℕ) → AsksNothing event → asked_by_event c event ≡ []
 asks_nothing (events.Connect client) c h = refl
 asks_nothing (events.Request client request) c h = absurd h
+asks_nothing (events.Seeking client request) c h = absurd h
+asks_nothing (events.Picture client told) c h = refl
 asks_nothing (events.Gone client) c h = refl
 
 pub not_full : (n : ℕ) → ((100 ≤ n) → ⊥) → n + 1 ≤ 100

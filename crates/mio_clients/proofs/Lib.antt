@@ -13,3 +13,4 @@ pub mod TurnLaws
 pub mod GroupLaws
 pub mod RoundLaws
 pub mod OverLaws
+pub mod SeekLaws

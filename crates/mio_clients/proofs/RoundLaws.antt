@@ -27,6 +27,9 @@ none_asked c [] none = refl
 none_asked c (events.Connect n ∷ es) none = none_asked c es none
 none_asked c (events.Request n r ∷ es) none =
     asked_first c n r es (n == c) refl (λ is. none_asked c es (rest_has c n r es is none)) none
+none_asked c (events.Seeking n r ∷ es) none =
+    asked_first c n r es (n == c) refl (λ is. none_asked c es (rest_has c n r es is none)) none
+none_asked c (events.Picture n told ∷ es) none = none_asked c es none
 none_asked c (events.Gone n ∷ es) none = none_asked c es none
 
 one_has : (c n : ℕ) (r : Request) (es : List ClientEvent) (t : Bool) → (n == c) ≡ t
@@ -42,6 +45,8 @@ pub none_has : (c : ℕ) (es : List ClientEvent) → asked_in c es ≡ [] → ha
 none_has c [] none = refl
 none_has c (events.Connect n ∷ es) none = none_has c es none
 none_has c (events.Request n r ∷ es) none = one_has c n r es (n == c) refl (none_has c es) none
+none_has c (events.Seeking n r ∷ es) none = one_has c n r es (n == c) refl (none_has c es) none
+none_has c (events.Picture n told ∷ es) none = none_has c es none
 none_has c (events.Gone n ∷ es) none = none_has c es none
 
 -- ---- whether an event belongs to a round
@@ -70,6 +75,8 @@ due_asked : (c : ℕ) (round : List ClientEvent) (e : ClientEvent) → is_due ro
     → (asked_by_event c e ≡ []) ⊎ ((asked_in c round ≡ []) × (length (asked_by_event c e) ≡ 1))
 due_asked c round (events.Connect n) due = inl refl
 due_asked c round (events.Request n r) due = due_request c n r round (n == c) refl due
+due_asked c round (events.Seeking n r) due = due_request c n r round (n == c) refl due
+due_asked c round (events.Picture n told) due = inl refl
 due_asked c round (events.Gone n) due = inl refl
 
 undue_request : (c n : ℕ) (r : Request) (round : List ClientEvent) (t : Bool) → (n == c) ≡ t → not (has_request_of n round) ≡ false
@@ -86,6 +93,8 @@ undue_asked : (c : ℕ) (round : List ClientEvent) (e : ClientEvent) → is_due 
     → asked_by_event c e ≡ []
 undue_asked c round (events.Connect n) undue none = refl
 undue_asked c round (events.Request n r) undue none = undue_request c n r round (n == c) refl undue none
+undue_asked c round (events.Seeking n r) undue none = undue_request c n r round (n == c) refl undue none
+undue_asked c round (events.Picture n told) undue none = refl
 undue_asked c round (events.Gone n) undue none = refl
 
 -- ---- a round is taken, event by event
@@ -96,7 +105,7 @@ pub record IsTaken (c : ℕ) (whole : List Request) (round behind left : List Cl
   pub one : length (asked_in c round) ≤ 1
   pub each : asked_in c round ≡ [] → asked_in c behind ≡ []
 
-last_asked : (c : ℕ) (es : List ClientEvent) (e : ClientEvent) → asked_in c (es ++ e ∷ []) ≡ asked_in c es ++ asked_by_event c e
+pub last_asked : (c : ℕ) (es : List ClientEvent) (e : ClientEvent) → asked_in c (es ++ e ∷ []) ≡ asked_in c es ++ asked_by_event c e
 last_asked c es e = asked_in-append c es (e ∷ []) ∙ ap (λ l. asked_in c es ++ l) (append-nil (asked_by_event c e))
 
 pub taken_front : (c : ℕ) (whole : List Request) (round behind left : List ClientEvent) (e : ClientEvent) → is_due round e ≡ true

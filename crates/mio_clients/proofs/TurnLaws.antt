@@ -523,9 +523,9 @@ module _ {S : Type 0} (remaining contents : S → Option (List ℕ)) where
     whole_refused g a b ps qs x y none s =
         subst (λ (t : List (Part D)). RefusesLast t) (whole_is g a b ps qs x y none s) s.refused
 
-    pub whole_told : (a b : ConnectionsState S) (ps qs : List (Part D)) (x y : PassState) → ps ≡ []
-        → Serves remaining contents false a b ps qs x y → refuses qs ≡ false → QuietBehind zero b.events
-    whole_told a b ps qs x y none s quiet =
+    pub whole_told : (waits : Bool) (a b : ConnectionsState S) (ps qs : List (Part D)) (x y : PassState) → ps ≡ []
+        → Serves remaining contents false a b ps qs x y → refuses qs ≡ false → QuietBehind waits zero b.events
+    whole_told waits a b ps qs x y none s quiet =
         absurd (cc (s.told refl, ap refuses (whole_is false a b ps qs x y none s), quiet))
 
 -- ---- how much a turn looks at
@@ -579,10 +579,10 @@ within_counted None looks total less h = tt
 within_counted (Some most) looks total less h = omega (arith, less, h)
 
 -- all is served where so much was looked at, and there is a bound or none
-pub quiet_within : (left looks total : ℕ) (bound : Option ℕ) (more : Bool) (es : List ClientEvent)
+pub quiet_within : (waits : Bool) (left looks total : ℕ) (bound : Option ℕ) (more : Bool) (es : List ClientEvent)
     → ((0 < left) × IsWithin bound looks → IsTrue more) → more ≡ false → looks ≡ min total greatest → IsWithin bound total
-    → QuietBehind left es → QuietBehind zero es
-quiet_within zero looks total bound more es goes ends counted within h = h
-quiet_within (suc n) looks total bound more es goes ends counted within h =
+    → QuietBehind waits left es → QuietBehind waits zero es
+quiet_within waits zero looks total bound more es goes ends counted within h = h
+quiet_within waits (suc n) looks total bound more es goes ends counted within h =
     let yes : IsTrue more = goes (omega arith, within_counted bound looks total (omega (arith, counted)) within) in
     absurd (cc (yes, ends))

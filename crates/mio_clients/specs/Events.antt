@@ -10,6 +10,8 @@ use Rattle.mio_clients.specs.declared.event.ClientEvent.TheVariants as events
 abbrev pub asked_by_event : ℕ → ClientEvent → List Request
 asked_by_event c (events.Connect client) = []
 asked_by_event c (events.Request client request) = if client == c then request ∷ [] else []
+asked_by_event c (events.Seeking client request) = if client == c then request ∷ [] else []
+asked_by_event c (events.Picture client told) = []
 asked_by_event c (events.Gone client) = []
 
 -- the requests of a client among events, in order
@@ -21,6 +23,8 @@ asked_in c (event ∷ rest) = asked_by_event c event ++ asked_in c rest
 abbrev pub is_request_of : ℕ → ClientEvent → Bool
 is_request_of c (events.Connect client) = false
 is_request_of c (events.Request client request) = client == c
+is_request_of c (events.Seeking client request) = client == c
+is_request_of c (events.Picture client told) = false
 is_request_of c (events.Gone client) = false
 
 -- whether a request of this client is among events
@@ -40,12 +44,19 @@ asker_of (events.Request client (Single line)) = Some client
 asker_of (events.Request client (requests.List lines)) = Some client
 asker_of (events.Request client (OkList lines)) = Some client
 asker_of (events.Request client Noidle) = None
+asker_of (events.Seeking client (Single line)) = Some client
+asker_of (events.Seeking client (requests.List lines)) = Some client
+asker_of (events.Seeking client (OkList lines)) = Some client
+asker_of (events.Seeking client Noidle) = None
+asker_of (events.Picture client told) = None
 asker_of (events.Gone client) = None
 
 -- an event that is no request
 abbrev pub AsksNothing : ClientEvent → Type 0
 AsksNothing (events.Connect client) = Unit {0}
 AsksNothing (events.Request client request) = ⊥
+AsksNothing (events.Seeking client request) = ⊥
+AsksNothing (events.Picture client told) = Unit {0}
 AsksNothing (events.Gone client) = Unit {0}
 
 -- these requests of a client, as events

@@ -1,5 +1,5 @@
 -- Which of the events that wait are served together.
-use Rattle.std.specs.Prelude.{◌≡◌, ◌≢◌, ℕ, zero, suc, ◌+◌, ◌-◌, ◌<◌, ◌≤◌, List, [], ◌∷◌, ◌++◌, length}
+use Rattle.std.specs.Prelude.{◌≡◌, ◌≢◌, ℕ, zero, suc, ◌+◌, ◌-◌, ◌<◌, ◌≤◌, List, [], ◌∷◌, ◌++◌, length, Bool}
 use Rattle.command_text.specs.declared.request.Request.{Request}
 use Rattle.command_text.specs.declared.request.Request.TheVariants.{Single, OkList, Noidle}
 use Rattle.command_text.specs.declared.request.Request.TheVariants as requests
@@ -28,6 +28,8 @@ place_of (events.Request client (Single line)) = Inside
 place_of (events.Request client (requests.List lines)) = Last
 place_of (events.Request client (OkList lines)) = Last
 place_of (events.Request client Noidle) = Inside
+place_of (events.Seeking client request) = Outside
+place_of (events.Picture client told) = Outside
 place_of (events.Gone client) = Outside
 
 abbrev pub len_by : Place → ℕ → ℕ
@@ -57,29 +59,29 @@ AreClientsOf [] (client ∷ clients) = ⊥
 AreClientsOf (event ∷ events) [] = ⊥
 AreClientsOf (event ∷ events) (client ∷ clients) = IsOf client event × AreClientsOf events clients
 
--- so many events less are left behind which all ask for nothing
+-- so many events less are left behind which none is to be served
 abbrev pub TakesMany : ℕ → List ClientEvent → List ClientEvent → Type 0
-TakesMany count before after = (n : ℕ) → 0 < n → QuietBehind n before → QuietBehind (n - count) after
+TakesMany count before after = (waits : Bool) (n : ℕ) → 0 < n → QuietBehind waits n before → QuietBehind waits (n - count) after
 
 -- the first of these events were taken, as the stage takes them
 pub record TakesGroup {S : Type 0} (old new : ConnectionsState S) (events : List Event) (clients : List ℕ) : Type 0 where
   pub same : new ≡ record old { events = new.events; room = new.room }
   pub asked : (c : ℕ) → asked_in c old.events ≡ asked_of_all c events ++ asked_in c new.events
   pub whose : AreClientsOf events clients
-  pub quiet : (n : ℕ) → QuietBehind (n + length events) old.events → QuietBehind n new.events
+  pub quiet : (waits : Bool) (n : ℕ) → QuietBehind waits (n + length events) old.events → QuietBehind waits n new.events
 
 -- an event was put back at the front
 pub record PutsBackOne {S : Type 0} (old new : ConnectionsState S) (event : Event) : Type 0 where
   pub same : new ≡ record old { events = new.events; room = new.room }
   pub asked : (c : ℕ) → asked_in c new.events ≡ asked_of c event ++ asked_in c old.events
-  pub quiet : (n : ℕ) → QuietBehind n old.events → QuietBehind (n + 1) new.events
+  pub quiet : (waits : Bool) (n : ℕ) → QuietBehind waits n old.events → QuietBehind waits (n + 1) new.events
   pub room : old.room ≤ new.room + 1
 
 -- events were put back at the front, in order
 pub record PutsBack {S : Type 0} (old new : ConnectionsState S) (events : List Event) : Type 0 where
   pub same : new ≡ record old { events = new.events; room = new.room }
   pub asked : (c : ℕ) → asked_in c new.events ≡ asked_of_all c events ++ asked_in c old.events
-  pub quiet : (n : ℕ) → QuietBehind n old.events → QuietBehind (n + length events) new.events
+  pub quiet : (waits : Bool) (n : ℕ) → QuietBehind waits n old.events → QuietBehind waits (n + length events) new.events
 
 -- clients were let go of, and all that they asked for
 abbrev pub AreGone : {S : Type 0} → ConnectionsState S → List ℕ → Type 0

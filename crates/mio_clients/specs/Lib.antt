@@ -1,5 +1,6 @@
 pub mod Streams
 pub mod Events
+pub mod Seeking
 pub mod Given
 pub mod Connections
 pub mod Later

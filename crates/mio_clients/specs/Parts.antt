@@ -21,6 +21,7 @@ use Rattle.mio_clients.specs.Events.{asked_in, asked_by_event, AsksNothing}
 use Rattle.mio_clients.specs.Connections.{ConnectionsState, IsVacant}
 use Rattle.mio_clients.specs.Later.{no_bytes, no_requests}
 use Rattle.mio_clients.specs.Leaving.{AllFollow}
+use Rattle.mio_clients.specs.Seeking.{sought_in}
 
 -- the bytes of these outputs that are for this client
 abbrev pub bytes_to : ℕ → List Output → List ℕ
@@ -67,6 +68,7 @@ asked_of c (stage_events.ScanDone job) = []
 asked_of c (stage_events.Clock time) = []
 asked_of c (stage_events.Keep ticket) = []
 asked_of c (stage_events.Resume plays) = []
+asked_of c (stage_events.Picture client told) = []
 
 -- a clock's event
 abbrev pub is_of_clock : Event → Bool
@@ -134,9 +136,14 @@ abbrev pub EndsWithin : Option ℕ → ℕ → Type 0
 EndsWithin None looks = Unit {0}
 EndsWithin (Some most) looks = min looks greatest ≤ most + 2 * most_looks
 
--- where no part refuses, no request is left among these events
-abbrev pub IsServedAll : {D : Type 0} → List (Part D) → List ClientEvent → Type 0
-IsServedAll parts events = refuses parts ≡ false → (c : ℕ) → asked_in c events ≡ []
+-- the requests of a client that a turn may leave for the next one: where it has a bound those that wait for a picture, else none
+abbrev pub waiting_in : Option ℕ → ℕ → List ClientEvent → List Request
+waiting_in None c events = []
+waiting_in (Some most) c events = sought_in c events
+
+-- where no part refuses, no other request is left among these events
+abbrev pub IsServedAll : {D : Type 0} → Option ℕ → List (Part D) → List ClientEvent → Type 0
+IsServedAll bound parts events = refuses parts ≡ false → (c : ℕ) → asked_in c events ≡ waiting_in bound c events
 
 -- Parts were added: what they give was given, the requests that they carry were served, and the pass has their share. None
 -- refuses exactly where it goes on.
@@ -156,6 +163,8 @@ pub record Serves {S D : Type 0} (remaining contents : S → Option (List ℕ)) 
 abbrev pub stage_event_of : ClientEvent → Event
 stage_event_of (events.Connect client) = stage_events.Connect client
 stage_event_of (events.Request client request) = stage_events.Request client request
+stage_event_of (events.Seeking client request) = stage_events.Request client request
+stage_event_of (events.Picture client told) = stage_events.Picture client told
 stage_event_of (events.Gone client) = stage_events.Gone client
 
 -- whether a turn goes on behind requests that were refused: where they found no memory, or no number

@@ -8,6 +8,8 @@ use Rattle.mio_clients.specs.Events.{asked_in, has_request_of}
 abbrev pub is_due : List ClientEvent → ClientEvent → Bool
 is_due round (events.Connect client) = true
 is_due round (events.Request client request) = not (has_request_of client round)
+is_due round (events.Seeking client request) = not (has_request_of client round)
+is_due round (events.Picture client told) = false
 is_due round (events.Gone client) = false
 
 -- Events are divided: a round has one request of each client that asks by any of them, its first, and the others are the rest.

@@ -152,11 +152,16 @@ impl<S: Stream> Client<S> {
         self.session.queue(bytes).is_ok()
     }
 
+    /// Whether it is to be read later, and not at the next wait: where it is held back, no turn is begun for it.
+    pub(crate) fn keeps_more(&self, is_held_back: bool) -> bool {
+        self.has_more && is_held_back
+    }
+
     /// Of what its stream is to be told.
-    pub(crate) fn interest(&self) -> Interest {
+    pub(crate) fn interest(&self, is_held_back: bool) -> Interest {
         if self.is_blocked {
             Interest::Room
-        } else if self.has_more {
+        } else if self.has_more && !is_held_back {
             Interest::Again
         } else {
             Interest::Input

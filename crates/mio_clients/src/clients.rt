@@ -5,7 +5,8 @@ ghost use Rattle.slab.specs.Slab.{get, slab_len};
 ghost use Rattle.mio_clients.specs.Events.{asked_by_event, asked_in};
 ghost use Rattle.mio_clients.specs.Grouping.{group_len, group_limit};
 ghost use Rattle.mio_clients.specs.Rounds.{IsDealt};
-ghost use Rattle.mio_clients.specs.Waiting.{StaysQuiet};
+ghost use Rattle.mio_clients.specs.Seeking.{IsSortedOut};
+ghost use Rattle.mio_clients.specs.Waiting.{QuietBehind, StaysQuiet};
 ghost use Rattle.mio_clients.specs.Connections.{ConnectionsState, IsFull, IsVacant, is_clock_due, with_clock_asked};
 ghost use Rattle.mio_clients.specs.Later.{no_bytes, no_requests, bytes_for, IsFault, Loses};
 ghost use Rattle.std.specs.List.{AllByRecursion};
@@ -17,6 +18,7 @@ use crate::client::{Reading, Writing};
 use crate::connections::Connections;
 use crate::event::ClientEvent;
 use crate::listener::Listener;
+use crate::pictures::{PictureLine, PictureOrder};
 use crate::ready::{Ready, Token};
 use crate::refusal::ClientsError;
 use crate::stream::Stream;
@@ -25,6 +27,7 @@ use daemon_core::ClockTime;
 use std::alloc::{AllocError, Global};
 use std::io::ErrorKind;
 use std::marker::Model;
+use std::sync::Wait;
 use std::time::Duration;
 
 /// How long the loop waits where nothing happens, in milliseconds.
@@ -80,6 +83,8 @@ pub struct Clients<S, L, P> {
     is_accepting: bool,
     // How many requests are served together at most, by how much the last ones looked at.
     group_most: usize,
+    // The way to the thread that reads pictures, where there is one.
+    pictures: Option<PictureLine>,
 }
 
 impl<S, L, P> Model for Clients<S, L, P> {
@@ -105,6 +110,7 @@ impl<S: Stream, L: Listener<S>, P: Ready<S>> Clients<S, L, P> {
             buffer: vec![in alloc; 0u8; READ_SIZE]?,
             is_accepting: true,
             group_most: GROUP_LIMIT,
+            pictures: None,
         })
     }
 
@@ -117,6 +123,14 @@ impl<S: Stream, L: Listener<S>, P: Ready<S>> Clients<S, L, P> {
         ensures asks { self.new.clock_second ≡ None }
     {
         self.connections.clear();
+        self.pictures = None;
+    }
+
+    /// From now on pictures are read by this way. Without one a request that asks for a picture is served as any other.
+    pub fn set_pictures(&mut self, line: PictureLine)
+        ensures { self.new ≡ self.old }
+    {
+        self.pictures = Some(line);
     }
 
     /// Where clients connect.
@@ -147,7 +161,7 @@ impl<S: Stream, L: Listener<S>, P: Ready<S>> Clients<S, L, P> {
         ensures same { self.new ≡ record self.old { left = []; places = self.new.places; gone = self.old.left; time = self.new.time } }
     {
         self.connections.close_left();
-        let limit = if self.connections.event_count() > 0 {
+        let limit = if self.connections.servable(true) > 0 {
             0
         } else {
             PATIENCE
@@ -496,6 +510,49 @@ impl<S: Stream, L: Listener<S>, P: Ready<S>> Clients<S, L, P> {
         ensures dealt { IsDealt self.old.events self.new.events ⊎ (self.new.events ≡ self.old.events) }
     {
         self.connections.deal(alloc);
+    }
+
+    // Puts the requests that wait for a picture behind the others, and what was read in front of the request that asks for it.
+    pub(crate) fn sort_out<R: Wait>(&mut self, rt: &R, alloc: Global)
+        ensures same { self.new ≡ record self.old { events = self.new.events; room = self.new.room } }
+        ensures asked { (c : ℕ) → asked_in c self.new.events ≡ asked_in c self.old.events }
+        ensures sorted { IsSortedOut self.new.events ⊎ (self.new.events ≡ self.old.events) }
+    {
+        if let Some(line) = &mut self.pictures {
+            line.take_read(rt, self.connections.time());
+            self.connections.sort_out(alloc, line);
+        }
+    }
+
+    // The next picture that is to be ordered.
+    pub(crate) fn next_wanted(&mut self) -> Option<PictureOrder>
+        ensures { self.new ≡ self.old }
+    {
+        match &mut self.pictures {
+            Some(line) => line.next_wanted(),
+            None => None,
+        }
+    }
+
+    // Whether the first request of this client waits for a picture.
+    pub(crate) fn is_seeking(&self, client: u64) -> bool {
+        self.connections.is_seeking(client)
+    }
+
+    // Orders a picture.
+    pub(crate) fn order_picture<R: Wait>(&mut self, rt: &R, order: PictureOrder)
+        ensures { self.new ≡ self.old }
+    {
+        if let Some(line) = &mut self.pictures {
+            line.order(rt, order);
+        }
+    }
+
+    // How many events are to be served in a turn, bounded or not.
+    pub(crate) fn servable(&self, is_bounded: bool) -> usize
+        ensures { QuietBehind is_bounded result self.now.events }
+    {
+        self.connections.servable(is_bounded)
     }
 
     // How many events are served together next.

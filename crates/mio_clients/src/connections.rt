@@ -7,7 +7,8 @@ ghost use Rattle.mio_clients.specs.Connections.{is_clock_due, is_other_second, w
 ghost use Rattle.mio_clients.specs.Events.{asked_by_event, asked_in, has_request_of, without};
 ghost use Rattle.mio_clients.specs.Grouping.{group_len};
 ghost use Rattle.mio_clients.specs.Rounds.{IsDealt};
-ghost use Rattle.mio_clients.specs.Waiting.{StaysQuiet};
+ghost use Rattle.mio_clients.specs.Seeking.{IsSortedOut};
+ghost use Rattle.mio_clients.specs.Waiting.{QuietBehind, StaysQuiet};
 ghost use Rattle.mio_clients.specs.Later.{no_bytes, no_requests, bytes_for, Loses};
 ghost use Rattle.std.specs.List.{AllByRecursion};
 ghost use Rattle.mio_clients.specs.Leaving.{AllFollow, IsFollowed, IsForgotten, IsLeftAt};
@@ -17,6 +18,7 @@ ghost use Rattle.mio_clients.specs.Yielding.{active_until, is_busy, is_over, kee
 use crate::CLIENT_LIMIT;
 use crate::client::{Client, Reading, Writing};
 use crate::event::ClientEvent;
+use crate::pictures::PictureLine;
 use crate::queue::EventQueue;
 use crate::ready::Ready;
 use crate::slots::{
@@ -128,6 +130,13 @@ impl<S: Stream> Connections<S> {
         ensures { self.new ≡ record self.old { time = now } }
     {
         self.time = now;
+    }
+
+    /// The time of the turn.
+    pub(crate) fn time(&self) -> u64
+        ensures { result ≡ self.now.time }
+    {
+        self.time
     }
 
     /// Whether a clock is to be asked, since none was in the second of the turn. It counts as asked then.
@@ -296,12 +305,21 @@ impl<S: Stream> Connections<S> {
         }
     }
 
+    // Whether the client at a key is read no more until its first request has its picture.
+    fn is_held_back(&self, key: usize) -> bool {
+        match self.clients.get(key) {
+            Some(client) => client.has_more && self.queue.is_seeking(client.id),
+            None => false,
+        }
+    }
+
     /// Has the client at a key told of as it needs; `false` where that can't be had.
     pub(crate) fn watch_at<P: Ready<S>>(&mut self, key: usize, ready: &mut P) -> bool
         ensures later { AllFollow S.remaining S.contents no_bytes no_requests self.old self.new }
         ensures events { self.new.events ≡ self.old.events }
     {
-        watch_slot(&mut self.clients, key, ready)
+        let is_held_back = self.is_held_back(key);
+        watch_slot(&mut self.clients, key, ready, is_held_back)
     }
 
     /// Lets go of all clients and of what they did. The numbers of clients go on.
@@ -559,6 +577,31 @@ impl<S: Stream> Connections<S> {
         ensures dealt { IsDealt self.old.events self.new.events ⊎ (self.new.events ≡ self.old.events) }
     {
         self.queue.deal(alloc);
+    }
+
+    /// Puts the requests that wait for a picture behind the others, and what was read in front of the request that asks for it.
+    pub(crate) fn sort_out(&mut self, alloc: Global, line: &mut PictureLine)
+        ensures same { self.new ≡ record self.old { events = self.new.events; room = self.new.room } }
+        ensures asked { (c : ℕ) → asked_in c self.new.events ≡ asked_in c self.old.events }
+        ensures sorted { IsSortedOut self.new.events ⊎ (self.new.events ≡ self.old.events) }
+    {
+        self.queue.sort_out(alloc, line);
+    }
+
+    /// Whether the first request of this client waits for a picture.
+    pub(crate) fn is_seeking(&self, client: u64) -> bool {
+        self.queue.is_seeking(client)
+    }
+
+    /// How many events are to be served in a turn: all, or where turns are bounded those in front of the requests that wait for a picture.
+    pub(crate) fn servable(&self, is_bounded: bool) -> usize
+        ensures { QuietBehind is_bounded result self.now.events }
+    {
+        if is_bounded {
+            self.queue.servable()
+        } else {
+            self.queue.len()
+        }
     }
 
     /// How many events are served together next, at most so many.

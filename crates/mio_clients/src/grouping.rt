@@ -73,6 +73,8 @@ fn handed_over(event: ClientEvent) -> (u64, Event)
     match event {
         ClientEvent::Connect(client) => (client, Event::Connect(client)),
         ClientEvent::Request(client, request) => (client, Event::Request(client, request)),
+        ClientEvent::Seeking(client, request) => (client, Event::Request(client, request)),
+        ClientEvent::Picture(client, told) => (client, Event::Picture(client, told)),
         ClientEvent::Gone(client) => (client, Event::Gone(client)),
     }
 }
@@ -85,6 +87,7 @@ fn handed_back(event: Event) -> Option<ClientEvent>
     match event {
         Event::Connect(client) => Some(ClientEvent::Connect(client)),
         Event::Request(client, request) => Some(ClientEvent::Request(client, request)),
+        Event::Picture(client, told) => Some(ClientEvent::Picture(client, told)),
         Event::Gone(client) => Some(ClientEvent::Gone(client)),
         _ => None,
     }

@@ -9,9 +9,11 @@ mod grouping;
 pub mod listener;
 pub mod memory;
 pub mod part;
+pub mod pictures;
 mod queue;
 pub mod ready;
 pub mod refusal;
+mod seeking;
 mod slots;
 pub mod sockets;
 pub mod stream;
@@ -19,13 +21,15 @@ mod turning;
 
 pub use client::Client;
 pub use clients::Clients;
-pub use daemon_core::ClockTime;
+pub use daemon_core::{ClockTime, PictureTold};
 pub use event::ClientEvent;
 pub use listener::Listener;
 pub use memory::{MemListener, MemReady, MemStream};
 pub use part::Part;
+pub use pictures::{PictureLine, PictureOrder, PictureRead};
 pub use ready::{Interest, Ready, Token};
 pub use refusal::ClientsError;
+pub use seeking::picture_asked;
 pub use sockets::{Socket, SocketListener, SocketReady};
 pub use stream::Stream;
 

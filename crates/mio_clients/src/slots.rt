@@ -129,12 +129,14 @@ pub(crate) fn release_slot<S: Stream>(clients: &mut Slab<Client<S>>, key: usize)
     }
 }
 
-// Has the client at this key told of as it needs; `false` where that can't be had.
+// Has the client at this key told of as it needs, which is held back where its first request waits for a picture; `false` where that can't
+// be had.
 #[tactic(auto, using(crate::proofs::ConnectionLaws::len_with_value, crate::proofs::GivenLaws::moves_watched))]
 pub(crate) fn watch_slot<S: Stream, P: Ready<S>>(
     clients: &mut Slab<Client<S>>,
     key: usize,
     ready: &mut P,
+    is_held_back: bool,
 ) -> bool
     ensures elsewhere { IsSameElsewhere key clients.old clients.new }
     ensures moved { IsMovedAt (λ x y. Moves S.remaining S.contents [] [] x y) key clients.old clients.new }
@@ -142,8 +144,8 @@ pub(crate) fn watch_slot<S: Stream, P: Ready<S>>(
     match clients.get_mut(key) {
         None => true,
         Some(client) => {
-            let interest = client.interest();
-            client.has_more = false;
+            let interest = client.interest(is_held_back);
+            client.has_more = client.keeps_more(is_held_back);
             ready.watch(&mut client.stream, key, interest).is_ok()
         }
     }

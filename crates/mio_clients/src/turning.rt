@@ -15,8 +15,10 @@ ghost use Rattle.mio_clients.specs.Parts.{bytes_in, requests_in, served_count, r
 ghost use Rattle.mio_clients.specs.Parts.{sent_by, sent_by_all, sent_by_served, asked_of, IsKeptOf, IsKeptAs, KeepsNoRequest, Serves};
 ghost use Rattle.mio_clients.specs.Parts.{looks_in, looks_of, stage_event_of, goes_on_with, AddsClock, EndsWithin, IsWithin};
 ghost use Rattle.mio_clients.specs.Rounds.{IsDealt};
+ghost use Rattle.mio_clients.specs.Seeking.{IsSortedOut};
 ghost use Rattle.mio_clients.specs.Yielding.{NowWaits};
 
+use crate::CLIENT_LIMIT;
 use crate::clients::{Clients, Sending};
 use crate::event::ClientEvent;
 use crate::grouping::{GroupRoom, goes_on_behind};
@@ -86,6 +88,12 @@ impl ClientEvent {
             ClientEvent::Request(client, request) => {
                 (Event::Request(client, request), Kept::Client(client))
             }
+            ClientEvent::Seeking(client, request) => {
+                (Event::Request(client, request), Kept::Client(client))
+            }
+            ClientEvent::Picture(client, told) => {
+                (Event::Picture(client, told), Kept::Client(client))
+            }
             ClientEvent::Gone(client) => {
                 (Event::Gone(client), Kept::Event(ClientEvent::Gone(client)))
             }
@@ -114,7 +122,7 @@ impl<S: Stream, L: Listener<S>, P: Ready<S>> Clients<S, L, P> {
         ensures seen { IfOk result (λ r. pass.seen ≤ r.1.seen) }
         ensures refused { IfOk result (λ r. RefusesLast r.0.items) }
         // Where nothing is refused, no request stays gathered.
-        ensures all { IfOk result (λ r. IsServedAll r.0.items self.new.events) }
+        ensures all { IfOk result (λ r. IsServedAll None r.0.items self.new.events) }
         ensures err { IfErr result (λ e. (e.0 ≡ StageError.NoMemory) × (e.1 ≡ pass) × (self.new ≡ self.old)) }
     {
         self.turn_within(rt, alloc, stage, pass, None)
@@ -124,7 +132,8 @@ impl<S: Stream, L: Listener<S>, P: Ready<S>> Clients<S, L, P> {
     /// docs/PROTOCOL.md counts it, no further one is served before the next turn.
     ///
     /// Then the first request of each client is served before a second one of any other, a client is not read of which a request waits, and
-    /// what one asked for that was let go of is not served any more; and clients are accepted by `accept_some`, else by `accept_all`.
+    /// what one asked for that was let go of is not served any more; clients are accepted by `accept_some`, else by `accept_all`; and a
+    /// request that asks for a picture waits until that was read, with all that its client asks for later, while others are served.
     pub fn turn_within<R: Wait, D: Disk, C: Ledger, Q: Ledger, T: Ledger>(
         &mut self,
         rt: &R,
@@ -139,8 +148,9 @@ impl<S: Stream, L: Listener<S>, P: Ready<S>> Clients<S, L, P> {
         ensures share { IfOk result (λ r. (r.1.kind ≡ pass.kind) × (r.1.share ≡ pass.share + served_count r.0.items)) }
         ensures seen { IfOk result (λ r. pass.seen ≤ r.1.seen) }
         ensures refused { IfOk result (λ r. RefusesLast r.0.items) }
-        // Where nothing is refused, and no more was looked at than that, no request stays gathered.
-        ensures all { IfOk result (λ r. IsWithin bound (looks_in r.0.items) → IsServedAll r.0.items self.new.events) }
+        // Where nothing is refused, and no more was looked at than that, no request stays gathered but, where there is a bound, those that
+        // wait for a picture.
+        ensures all { IfOk result (λ r. IsWithin bound (looks_in r.0.items) → IsServedAll bound r.0.items self.new.events) }
         // It looked at no more than its bound and what one group may look at.
         ensures bounded { IfOk result (λ r. EndsWithin bound (looks_in r.0.items)) }
         // Of those that were let go of no request stays, where turns are bounded.
@@ -157,7 +167,9 @@ impl<S: Stream, L: Listener<S>, P: Ready<S>> Clients<S, L, P> {
         let is_left = self.has_left(is_bounded);
         self.gather(alloc, is_bounded);
         self.take_turns(alloc, is_left);
+        self.seek(rt, alloc, is_bounded);
         let pass = self.serve_all(rt, alloc, stage, pass, &mut parts, bound);
+        self.order_pictures(rt, stage);
         self.send_all();
         self.forget_left(is_bounded);
         self.close_left();
@@ -172,6 +184,41 @@ impl<S: Stream, L: Listener<S>, P: Ready<S>> Clients<S, L, P> {
     {
         if is_left {
             self.deal(alloc);
+        }
+    }
+
+    // Where turns are bounded, has the requests wait that ask for a picture which isn't read, and puts what was read in front of the
+    // requests that ask for it.
+    fn seek<R: Wait>(&mut self, rt: &R, alloc: Global, is_bounded: bool)
+        ensures later { AllFollow S.remaining S.contents no_bytes no_requests self.old self.new }
+        ensures sorted { is_bounded ≡ true → IsSortedOut self.new.events ⊎ (self.new.events ≡ self.old.events) }
+        ensures same { is_bounded ≡ false → self.new ≡ self.old }
+    {
+        if is_bounded {
+            self.sort_out(rt, alloc);
+        }
+    }
+
+    // Orders the pictures that are wanted, as many bytes of each as an answer to its client may have: so none of which an earlier request
+    // may still set that.
+    fn order_pictures<R: Wait, D: Disk, C: Ledger, Q: Ledger, T: Ledger>(
+        &mut self,
+        rt: &R,
+        stage: &SharedStage<D, C, Q, T>,
+    )
+        ensures { self.new ≡ self.old }
+    {
+        for _order in 0..CLIENT_LIMIT {
+            let Some(mut order) = self.next_wanted() else {
+                return;
+            };
+            if self.is_seeking(order.client) {
+                let Ok(limit) = stage.chunk_limit(rt, order.client) else {
+                    return;
+                };
+                order.ask.limit = limit;
+                self.order_picture(rt, order);
+            }
         }
     }
 
@@ -191,7 +238,8 @@ impl<S: Stream, L: Listener<S>, P: Ready<S>> Clients<S, L, P> {
         ensures share { (result.kind ≡ pass.kind) × (result.share ≡ pass.share + served_count parts.new.items) }
         ensures seen { pass.seen ≤ result.seen }
         ensures refused { RefusesLast parts.new.items }
-        ensures quiet { refuses parts.new.items ≡ false → IsWithin bound (looks_in parts.new.items) → QuietBehind zero self.new.events }
+        ensures quiet { refuses parts.new.items ≡ false → IsWithin bound (looks_in parts.new.items)
+            → QuietBehind (is_some bound) zero self.new.events }
         ensures bounded { EndsWithin bound (looks_in parts.new.items) }
     {
         let (goes_on, pass) = self.serve_in_time(rt, alloc, stage, pass, parts, bound);
@@ -216,7 +264,7 @@ impl<S: Stream, L: Listener<S>, P: Ready<S>> Clients<S, L, P> {
         requires empty { parts.old.items ≡ [] }
         requires room { vec_len parts.old < vec_capacity parts.old }
         ensures serves { Serves S.remaining S.contents result.0 self.old self.new parts.old.items parts.new.items pass result.1 }
-        ensures quiet { result.0 ≡ true → IsWithin bound (looks_in parts.new.items) → QuietBehind zero self.new.events }
+        ensures quiet { result.0 ≡ true → IsWithin bound (looks_in parts.new.items) → QuietBehind (is_some bound) zero self.new.events }
         ensures bounded { EndsWithin bound (looks_in parts.new.items) }
         ensures room { result.0 ≡ true → vec_len parts.new < vec_capacity parts.new }
     {
@@ -280,16 +328,17 @@ impl<S: Stream, L: Listener<S>, P: Ready<S>> Clients<S, L, P> {
     ) -> (bool, Pass<C, Q, T>)
         requires room { vec_len parts.old < vec_capacity parts.old }
         ensures serves { Serves S.remaining S.contents result.0 self.old self.new parts.old.items parts.new.items pass result.1 }
-        ensures quiet { result.0 ≡ true → IsWithin bound (looks_in parts.new.items) → QuietBehind zero self.new.events }
+        ensures quiet { result.0 ≡ true → IsWithin bound (looks_in parts.new.items) → QuietBehind (is_some bound) zero self.new.events }
         ensures bounded { EndsWithin bound (looks_in parts.old.items) → EndsWithin bound (looks_in parts.new.items) }
         ensures room { result.0 ≡ true → vec_len parts.new < vec_capacity parts.new }
     {
+        let is_bounded = bound.is_some();
         let mut pass = pass;
-        let mut left = self.event_count();
+        let mut left = self.servable(is_bounded);
         let mut looks = looks_in(parts.as_slice());
         'left: while serves_more(left, looks, bound) {
             let from = parts.len();
-            let (served, passed) = self.serve_some(rt, alloc, stage, pass, parts, bound.is_some());
+            let (served, passed) = self.serve_some(rt, alloc, stage, pass, parts, is_bounded);
             let Some(count) = served else {
                 return (false, passed);
             };

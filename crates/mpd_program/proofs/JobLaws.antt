@@ -10,6 +10,7 @@ use Rattle.machine_core.specs.Scanning.{after_job, ends_scan, is_running, job_be
 use Rattle.machine_core.specs.State.{MachineState}
 use Rattle.machine_core.specs.declared.clock.ClockTime.{ClockTime}
 use Rattle.machine_core.specs.declared.job.WaitingJob.{WaitingJob}
+use Rattle.daemon_core.specs.declared.picture.PictureTold.{PictureTold}
 use Rattle.daemon_core.specs.declared.event.Event.TheVariants as events
 use Rattle.daemon_core.specs.Session.{Acted}
 use Rattle.daemon_core.specs.State.{State}
@@ -105,3 +106,9 @@ end_fewer n s t h is =
 pub clock_idles : (time : ClockTime) (s t : State) → StepsTo (events.Clock time) s t → RunsNone s.machine.job → RunsNone t.machine.job
 unfolding step
 clock_idles time s t h is = ap (λ (v : State). v.machine.job.runs) h.state ∙ is
+
+-- nor is a picture
+pub picture_idles : (c : ℕ) (told : PictureTold) (s t : State) → StepsTo (events.Picture c told) s t → RunsNone s.machine.job
+    → RunsNone t.machine.job
+unfolding step
+picture_idles c told s t h is = ap (λ (v : State). v.machine.job.runs) h.state ∙ is

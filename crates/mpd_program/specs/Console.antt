@@ -40,6 +40,7 @@ asked (events.ScanDone number) = []
 asked (events.Clock time) = []
 asked (events.Keep ticket) = []
 asked (events.Resume plays) = []
+asked (events.Picture c told) = []
 
 -- what the client asked for in a history, the oldest first
 abbrev pub asked_in : List Entry → List Event
@@ -73,6 +74,7 @@ ComesInTurn job (events.ScanDone number) = IsRunning number job
 ComesInTurn job (events.Clock time) = Unit {0}
 ComesInTurn job (events.Keep ticket) = Unit {0}
 ComesInTurn job (events.Resume plays) = Unit {0}
+ComesInTurn job (events.Picture c told) = Unit {0}
 
 -- each event of a job came while that job ran, and each request while none did
 abbrev pub JobsInTurn : SavedState → List Entry → Type 0

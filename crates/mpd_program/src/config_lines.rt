@@ -1,7 +1,9 @@
 // What is said on standard error of a configuration that is none: a line for each fault, with the line of the text, the key and the value.
 use crate::config::{is_known_key, is_wrong, names_one_file};
 use crate::config_key::ConfigKey;
-use crate::error_lines::say;
+use crate::error_lines::{LoopLog, say};
+use log::{Log, warn};
+use profile::Profile;
 use std::alloc::Global;
 use std::fmt;
 use toml::de::Error;
@@ -85,6 +87,24 @@ impl ConfigText {
         if is_same(output, table.get("journal_a")) || is_same(output, table.get("journal_b")) {
             let wanted = "another file than those of the journal";
             self.tell_value(rt, &table, ConfigKey::Output, wanted);
+        }
+    }
+
+    /// Says in the log which keys of a configuration do nothing under a profile.
+    pub(crate) fn tell_unused(&self, rt: &HostRuntime, profile: Profile) {
+        if profile == Profile::Wide {
+            return;
+        }
+        let Ok(table) = toml::table_from_str(rt.alloc(), self.text.as_str()) else {
+            return;
+        };
+        let path = self.path.as_str();
+        for key in [ConfigKey::Resume, ConfigKey::PlaceEvery] {
+            let name = key.name();
+            if table.get(name).is_some() {
+                let place = self.place_of(rt.alloc(), name);
+                warn!(LoopLog::new(rt); "{path}: {place}{name} does nothing without stock_clients = true");
+            }
         }
     }
 

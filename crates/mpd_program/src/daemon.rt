@@ -214,6 +214,22 @@ fn decoder<'a>(
     }
 }
 
+/// The songs of a folder, as they are read by this decoder, until the flag is set.
+fn songs_by<'a>(
+    config: &ServeConfig,
+    stop: &StopFlag,
+    music: Music<'a>,
+    decoder: Option<DaemonDecoder<'a>>,
+) -> Result<Songs<'a>, AllocError> {
+    Ok(Decoded {
+        folder: AsWave {
+            folder: StoppingFolder::new(music, stop.again()?),
+            forms: config.formats,
+        },
+        decoder,
+    })
+}
+
 /// The songs of the configuration, until the flag is set; the calls for them are counted.
 fn songs<'a>(
     rt: &'a HostRuntime,
@@ -223,13 +239,26 @@ fn songs<'a>(
 ) -> Result<Songs<'a>, AllocError> {
     let lines = ErrorLines::new(rt, stop.again()?);
     let music = Music::new(rt, config.music.as_str(), Some(lines), calls)?;
-    Ok(Decoded {
-        folder: AsWave {
-            folder: StoppingFolder::new(music, stop.again()?),
-            forms: config.formats,
-        },
-        decoder: decoder(rt, config, stop)?,
-    })
+    songs_by(config, stop, music, decoder(rt, config, stop)?)
+}
+
+/// The songs and albums whose pictures are read, where the profile has any. What can't be read is told to the client that asks, and not in
+/// the log.
+fn pictures<'a>(
+    rt: &'a HostRuntime,
+    config: &ServeConfig,
+    stop: &StopFlag,
+    calls: Calls,
+) -> Result<Option<Songs<'a>>, AllocError> {
+    if config.profile() == Profile::Named {
+        return Ok(None);
+    }
+    let music = Music::silent(rt, config.music.as_str(), calls)?;
+    let decoder = match &config.decoder {
+        Some(socket) => Some(DaemonDecoder::silent(rt, socket.as_str())?),
+        None => None,
+    };
+    Ok(Some(songs_by(config, stop, music, decoder)?))
 }
 
 /// What the daemon's threads work on.
@@ -242,15 +271,20 @@ type DaemonClients<'a> = Clients<
     GuardedReady<SocketReady>,
 >;
 
-/// So many descriptors take a hundred clients, and what is open beside them.
-const DESCRIPTORS: u64 = 115;
+/// So many descriptors take a hundred clients, and what is open beside them: of pictures up to 16, and those that are looked for.
+fn wanted_descriptors(profile: Profile) -> u64 {
+    match profile {
+        Profile::Named => 115,
+        Profile::Wide => 135,
+    }
+}
 
 /// Says where the system gives fewer.
-fn tell_descriptors(rt: &HostRuntime) {
+fn tell_descriptors(rt: &HostRuntime, wanted: u64) {
     if let Some(most) = most_descriptors(rt) {
-        if most < DESCRIPTORS {
+        if most < wanted {
             warn!(LoopLog::new(rt);
-                "{most} descriptors at most (ulimit -n), of {DESCRIPTORS} that a hundred clients want: fewer are accepted at once, and songs may not be opened"
+                "{most} descriptors at most (ulimit -n), of {wanted} that a hundred clients want: fewer are accepted at once, and songs may not be opened"
             );
         }
     }
@@ -276,17 +310,20 @@ fn begin<'a>(
     stop: StopFlag,
     clock: &'a DaemonClock<'a>,
 ) -> Result<(DaemonClients<'a>, DaemonWorkers<'a>), Exit> {
-    tell_descriptors(rt);
+    tell_descriptors(rt, wanted_descriptors(config.profile()));
     let (player, scan) = (Calls::new(rt.alloc())?, Calls::new(rt.alloc())?);
+    let reader = Calls::new(rt.alloc())?;
     let calls = MusicCalls {
         player: CallWatch::new(player.again()?),
         scan: CallWatch::new(scan.again()?),
+        pictures: CallWatch::new(reader.again()?),
     };
     let (clients, wake) = listen(rt, config, address, clock, calls)?;
     let _cleared = output.clear();
     let workers = Workers {
         sources: songs(rt, config, &stop, player)?,
         folder: songs(rt, config, &stop, scan)?,
+        pictures: pictures(rt, config, &stop, reader)?,
         rules: rules_of(config.profile(), config.formats, config.decoder.is_some()),
         output: SoundOutput {
             writer: output,
@@ -381,6 +418,7 @@ pub fn serve<R: Threads + Wait + Clock + Log + Sync>(
         return Err(Exit::BadConfiguration);
     };
     let address = address_of(rt, &config.tcp, text)?;
+    text.tell_unused(rt, config.profile());
     let stop = StopFlag::new(rt.alloc())?;
     let output = open_output(rt, config.output.as_str(), &stop)?;
     serve_over(rt, threads, &config, address, output, stop)

@@ -14,7 +14,8 @@ use std::io::ErrorKind;
 pub struct DaemonDecoder<'a> {
     rt: &'a HostRuntime,
     socket: String,
-    lines: MusicLines<'a>,
+    // None where nothing is told.
+    lines: Option<MusicLines<'a>>,
 }
 
 impl<'a> DaemonDecoder<'a> {
@@ -27,8 +28,25 @@ impl<'a> DaemonDecoder<'a> {
         Ok(DaemonDecoder {
             rt,
             socket: String::from_str(rt.alloc(), socket)?,
-            lines: MusicLines::new(rt, lines),
+            lines: Some(MusicLines::new(rt, lines)),
         })
+    }
+
+    /// The same, of which nothing is told.
+    pub fn silent(rt: &'a HostRuntime, socket: &str) -> Result<Self, AllocError> {
+        Ok(DaemonDecoder {
+            rt,
+            socket: String::from_str(rt.alloc(), socket)?,
+            lines: None,
+        })
+    }
+
+    // Whether a file that isn't told has a line.
+    fn takes_line(&mut self) -> bool {
+        match &mut self.lines {
+            Some(lines) => lines.takes_line(),
+            None => false,
+        }
     }
 
     // Says which file the decoder doesn't tell: of one that it knows as no song that, of any other that its row stays.
@@ -65,7 +83,7 @@ impl<'a> Decoder for DaemonDecoder<'a> {
 
     fn refused(&mut self, path: &str, why: DecoderError, words: &str) {
         // For want of memory nothing is said.
-        if why != DecoderError::NoMemory && self.lines.takes_line() {
+        if why != DecoderError::NoMemory && self.takes_line() {
             self.print(path, why, words);
         }
     }

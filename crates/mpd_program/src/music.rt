@@ -18,7 +18,8 @@ pub struct Music<'a> {
     rt: &'a HostRuntime,
     root: String,
     files: FileFolder<'a>,
-    lines: MusicLines<'a>,
+    // None where nothing is told.
+    lines: Option<MusicLines<'a>>,
     calls: Calls,
     // What could not be listed last, unless something was opened since.
     unlisted: Option<String>,
@@ -33,14 +34,36 @@ impl<'a> Music<'a> {
         lines: Option<ErrorLines>,
         calls: Calls,
     ) -> Result<Self, AllocError> {
+        Music::over(rt, root, Some(MusicLines::new(rt, lines)), calls)
+    }
+
+    /// The same, of which nothing is told.
+    pub fn silent(rt: &'a HostRuntime, root: &str, calls: Calls) -> Result<Self, AllocError> {
+        Music::over(rt, root, None, calls)
+    }
+
+    fn over(
+        rt: &'a HostRuntime,
+        root: &str,
+        lines: Option<MusicLines<'a>>,
+        calls: Calls,
+    ) -> Result<Self, AllocError> {
         Ok(Music {
             rt,
             root: String::from_str(rt.alloc(), root)?,
             files: FileFolder::new(rt, String::from_str(rt.alloc(), root)?),
-            lines: MusicLines::new(rt, lines),
+            lines,
             calls,
             unlisted: None,
         })
+    }
+
+    // Whether what can't be read has a line.
+    fn takes_line(&mut self) -> bool {
+        match &mut self.lines {
+            Some(lines) => lines.takes_line(),
+            None => false,
+        }
     }
 
     // Where the operating system has what stands under a path.
@@ -90,7 +113,7 @@ impl<'a> Music<'a> {
     // Says what can't be listed. For want of memory nothing is said.
     fn tell_folder(&mut self, alloc: Global, path: &str) {
         self.unlisted = String::from_str(alloc, path).ok();
-        if self.lines.takes_line() {
+        if self.takes_line() {
             if let Ok(place) = self.place(alloc, path) {
                 let error = error_of_folder(self.rt, place.as_str());
                 self.print(place.as_str(), error);
@@ -109,7 +132,7 @@ impl<'a> Music<'a> {
 
     // Says what can't be opened. For want of memory nothing is said.
     fn tell_file(&mut self, alloc: Global, path: &str) {
-        if !self.is_told(path) && self.lines.takes_line() {
+        if !self.is_told(path) && self.takes_line() {
             if let Ok(place) = self.place(alloc, path) {
                 let error = error_of_file(self.rt, place.as_str());
                 self.print(place.as_str(), error);

@@ -13,11 +13,12 @@ const MOST_LINES: u32 = 10;
 
 const MINUTE: u64 = 60_000;
 
-/// The player's and the scan's calls of the system.
+/// The calls of the system that the player, the scan and the reader of pictures make.
 #[derive(Drop)]
 pub struct MusicCalls {
     pub player: CallWatch,
     pub scan: CallWatch,
+    pub pictures: CallWatch,
 }
 
 /// Listening sockets that say why a client can't be accepted: once, until no client waits any more. Whoever wants to connect waits
@@ -84,6 +85,7 @@ impl<'a> ToldListener<'a> {
         let threads = [
             ("player", calls.player.is_late(now)),
             ("scan", calls.scan.is_late(now)),
+            ("reader of pictures", calls.pictures.is_late(now)),
         ];
         for (thread, is_late) in threads {
             if is_late && is_written(&mut self.lines, &mut self.standing, self.log) {

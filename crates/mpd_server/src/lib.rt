@@ -10,6 +10,7 @@ mod life;
 mod line_limit;
 mod looping;
 mod opening;
+mod pictures;
 mod server;
 mod tally;
 mod workers;

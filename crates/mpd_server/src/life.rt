@@ -7,6 +7,7 @@ use crate::ends::Ends;
 use crate::failures::{NotedFolder, Opening, ToldWake};
 use crate::jobs::Jobs;
 use crate::looping::{Turns, run_loop};
+use crate::pictures::{PictureEnds, open_line, read_pictures};
 use crate::tally::TalliedFolder;
 use crate::workers::{Signals, Stop, Tools};
 use crossbeam_channel::Receiver;
@@ -92,13 +93,15 @@ struct Worked<C: Ledger, P: Ledger, S: Ledger, F, G, W> {
     clients: Pass<C, P, S>,
     player: Option<Played<C, P, S, F, W>>,
     scan: Option<(Pass<C, P, S>, G)>,
+    pictures: Option<G>,
 }
 
-// What both threads handed back, and the receipt that was given out last.
+// What the threads handed back, and the receipt that was given out last.
 type Returned<F, G, W> = (Option<Tools<F, G, W>>, Option<Receipt>);
 
 impl<C: Ledger, P: Ledger, S: Ledger, F: Drop, G: Drop, W: Drop> Worked<C, P, S, F, G, W> {
-    // All passes that came back, into an empty list with room for three. There are no tools where one of the threads was not made.
+    // All passes that came back, into an empty list with room for three. There are no tools where the player's or the scan's thread was
+    // not made.
     fn into_passes(self, passes: &mut Vec<Pass<C, P, S>>) -> Returned<F, G, W>
         requires empty { vec_len passes.old ≡ 0 }
         requires room { 3 ≤ vec_capacity passes.old }
@@ -108,6 +111,7 @@ impl<C: Ledger, P: Ledger, S: Ledger, F: Drop, G: Drop, W: Drop> Worked<C, P, S,
             clients,
             player,
             scan,
+            pictures,
         } = self;
         passes.push_reserved(clients);
         let mut played = None;
@@ -124,6 +128,7 @@ impl<C: Ledger, P: Ledger, S: Ledger, F: Drop, G: Drop, W: Drop> Worked<C, P, S,
             (Some((sources, output)), Some(folder)) => Some(Tools {
                 sources,
                 folder,
+                pictures,
                 output,
             }),
             _ => None,
@@ -263,7 +268,69 @@ where
     scope.spawn(thread).ok()
 }
 
-// Runs the loop in this thread, and the player and the scan in threads of their own, until the loop ends.
+// Starts the thread of the pictures; none where it can't be made.
+fn spawn_pictures<
+    's,
+    E: 's,
+    F: Folder + Send + Drop + 's,
+    K: Wake + Sync + 's,
+    R: Wait + Clock + Sync + 's,
+>(
+    scope: &Scope<'s, E>,
+    rt: &'s R,
+    alloc: Global,
+    (wake, ends): (&'s K, &'s Ends),
+    folder: F,
+    line: PictureEnds,
+) -> Option<JoinHandle<F>>
+where
+    F::File: Send,
+{
+    let thread = move || read_pictures(rt, alloc, (wake, ends), folder, line);
+    scope.spawn(thread).ok()
+}
+
+// Under the wide profile has pictures read in a thread of their own. Where it can't be made, or there is no folder for it, each request for
+// a picture is refused.
+fn start_pictures<
+    's,
+    E: 's,
+    T: Stream,
+    L: Listener<T>,
+    Y: Ready<T>,
+    F: Folder + Send + Drop + 's,
+    K: Wake + Sync + 's,
+    R: Wait + Clock + Log + Sync + 's,
+>(
+    scope: &Scope<'s, E>,
+    rt: &'s R,
+    alloc: Global,
+    clients: &mut Clients<T, L, Y>,
+    (wake, ends, profile): (&'s K, &'s Ends, Profile),
+    folder: Option<F>,
+) -> Option<JoinHandle<F>>
+where
+    F::File: Send,
+{
+    if profile == Profile::Named {
+        return None;
+    }
+    let Ok(line) = open_line(alloc, clients) else {
+        warn!(rt; "no memory for the reader of pictures: none is told");
+        return None;
+    };
+    // Without a thread the line ends here, which the clients see.
+    let folder = folder?;
+    ends.pictures_begin(rt);
+    let thread = spawn_pictures(scope, rt, alloc, (wake, ends), folder, line);
+    if thread.is_none() {
+        ends.pictures_ended(rt);
+        warn!(rt; "no thread for the reader of pictures: none is told");
+    }
+    thread
+}
+
+// Runs the loop in this thread, and the player, the scan and the pictures in threads of their own, until the loop ends.
 fn work<
     'a,
     D: Disk + Send,
@@ -295,6 +362,7 @@ where
     let Tools {
         sources,
         folder,
+        pictures,
         output,
     } = tools;
     let wake = (&signals.wake, ends);
@@ -330,6 +398,8 @@ where
                 output,
             );
             let scan = start_scan(scope, rt, alloc, stage, wake, scan, folder, orders);
+            let told = (waker, ends, profile);
+            let pictures = start_pictures(scope, rt, alloc, clients, told, pictures);
             let (turns, mine) = if player.is_some() && scan.is_some() {
                 run_loop(rt, alloc, profile, stage, mine, clients, jobs)
             } else {
@@ -340,18 +410,25 @@ where
             };
             stage.close(rt);
             stop.stop();
+            match profile {
+                Profile::Named => {}
+                // A client that waits for a picture is closed, and its reader ends.
+                Profile::Wide => clients.close_all(),
+            }
             ends.tell_late(rt);
             Worked {
                 turns,
                 clients: mine,
                 player: player.map(|thread| thread.join(rt)),
                 scan: scan.map(|thread| thread.join(rt)),
+                pictures: pictures.map(|thread| thread.join(rt)),
             }
         },
     )
 }
 
-// Shares the stage until the loop ends, and settles it. What the threads had comes back with it, where both were made.
+// Shares the stage until the loop ends, and settles it. What the threads had comes back with it, where the player's and the scan's were
+// made.
 fn live_shared<
     D: Disk + Send,
     C: Ledger + Send + Sync,

@@ -107,7 +107,8 @@ fn turn_under<
     pass: Pass<C, P, S>,
     clients: &mut Clients<T, L, Y>,
 ) -> Turned<D, C, P, S>
-    ensures all { IfOk result (λ r. IsWithin (turn_bound profile) (looks_in r.0.items) → IsServedAll r.0.items clients.new.events) }
+    ensures all { IfOk result (λ r. IsWithin (turn_bound profile) (looks_in r.0.items) →
+        IsServedAll (turn_bound profile) r.0.items clients.new.events) }
     // Under the wide profile no request stays of those that were let go of.
     ensures closed { IfOk result (λ r. profile ≡ Profile.Wide →
         AllByRecursion (λ last. asked_in last.id clients.new.events ≡ []) clients.new.gone) }

@@ -18,7 +18,8 @@ use std::sync::Wait;
 use std::thread::Threads;
 use std::time::Clock;
 
-/// Serves clients over an opened journal until one of them ends the daemon; songs are played and scanned meanwhile, in two threads.
+/// Serves clients over an opened journal until one of them ends the daemon; songs are played and scanned meanwhile, in two threads, and
+/// pictures read in a third.
 ///
 /// After the first disk fault all clients are closed, the threads end, and the journal is opened again. A second one ends the daemon; so
 /// does the first where a disk failed at the opening already, or where a thread could not be made.

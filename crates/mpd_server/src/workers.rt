@@ -38,13 +38,15 @@ impl Resuming {
     };
 }
 
-/// What the threads of the player and of the scan work on.
+/// What the threads of the player, of the scan and of the pictures work on.
 #[derive(Drop)]
 pub struct Workers<F, G, W, H, K> {
     /// The songs that the player reads.
     pub sources: F,
     /// The songs that the scan reads.
     pub folder: G,
+    /// The songs and albums whose pictures are read, under the wide profile; without them none is.
+    pub pictures: Option<G>,
     /// By which rules it finds and reads them.
     pub rules: LibraryRules,
     /// Where the sound goes, and in which form.
@@ -57,11 +59,12 @@ pub struct Workers<F, G, W, H, K> {
     pub wake: K,
 }
 
-// What the two threads take with them, and hand back at their end.
+// What the threads take with them, and hand back at their end.
 #[derive(Drop)]
 pub(crate) struct Tools<F, G, W> {
     pub(crate) sources: F,
     pub(crate) folder: G,
+    pub(crate) pictures: Option<G>,
     pub(crate) output: SoundOutput<W>,
 }
 
@@ -81,6 +84,7 @@ impl<F, G, W, H, K> Workers<F, G, W, H, K> {
         let Workers {
             sources,
             folder,
+            pictures,
             rules,
             output,
             resuming,
@@ -91,6 +95,7 @@ impl<F, G, W, H, K> Workers<F, G, W, H, K> {
             Tools {
                 sources,
                 folder,
+                pictures,
                 output,
             },
             Signals {

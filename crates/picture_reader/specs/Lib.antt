@@ -1,4 +1,5 @@
 pub mod Kept
 pub mod Limits
 pub mod Open
+pub mod Paths
 pub mod Pictures

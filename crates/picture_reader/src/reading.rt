@@ -4,12 +4,13 @@ ghost use Rattle.std.specs.List.{find, position_or_len, remove};
 ghost use Rattle.song_files.specs.Folder.{File};
 ghost use Rattle.covers.specs.Answers.{answer_in};
 ghost use Rattle.song_db.specs.SameFolder.{IsSameFolder};
-ghost use Rattle.song_db.specs.Uri.{is_uri};
 ghost use Rattle.picture_reader.specs.Kept.{goes_on, is_asked, is_of, same_kind, AreOpen, AreSteady, IsChosen, IsChosenSteady, IsKept};
 ghost use Rattle.picture_reader.specs.Open.{held, HasRoom, IsWhole};
+ghost use Rattle.picture_reader.specs.Paths.{is_path};
 ghost use Rattle.picture_reader.specs.Pictures.{IsAnswer, IsTold};
 
 use crate::finding::find_picture;
+use crate::folder_path::folder_of;
 use crate::kept::KeptPicture;
 use crate::opening::read_open;
 use crate::pictures::OpenPictures;
@@ -45,6 +46,17 @@ fn is_left(ask: &PictureAsk, answer: &PictureAnswer) -> bool {
             end < chunk.size
         }
         _ => false,
+    }
+}
+
+// Whether what is asked for may be looked at: a URI; of an album's picture also what stands in a folder that has one.
+fn is_path(ask: &PictureAsk) -> bool
+    ensures { result ≡ is_path ask.now.kind ask.now.uri }
+{
+    let uri = ask.uri.as_str();
+    match ask.kind {
+        PictureKind::Album => is_uri(uri) || is_uri(folder_of(uri)),
+        PictureKind::Inside => is_uri(uri),
     }
 }
 
@@ -161,7 +173,8 @@ fn answer_at<F: Folder>(
 }
 
 /// Answers what a client asks of a picture by the files of a folder: the bytes that are asked for, at most 262,144 of them, or that there
-/// is no such picture, or that it ends before. A path that hasn't the form of a URI is that of no picture, and the folder isn't asked then.
+/// is no such picture, or that it ends before. A path that hasn't the form of a URI is that of no picture, and the folder isn't asked then;
+/// of an album's picture the form of its folder is enough, so a folder with a slash behind it may stand for what is in it.
 ///
 /// `Unreadable` says that the folder or a file failed, and nothing of the picture; `NoMemory` says nothing either.
 ///
@@ -175,8 +188,8 @@ pub fn answer_picture<F: Folder>(
     ask: &PictureAsk,
 ) -> Result<PictureAnswer, NoMemory>
     ensures told { F.honest folder.old → AreOpen F.File.bytes F.File.honest (F.files folder.old) pictures.old →
-        IsTrue (is_uri ask.now.uri) → IfOk result (IsTold (F.files folder.old) ask.now) }
-    ensures no_path { is_uri ask.now.uri ≡ false →
+        IsTrue (is_path ask.now.kind ask.now.uri) → IfOk result (IsTold (F.files folder.old) ask.now) }
+    ensures no_path { is_path ask.now.kind ask.now.uri ≡ false →
         (result ≡ Ok PictureAnswer.NoPicture) × (folder.new ≡ folder.old) × (pictures.new ≡ pictures.old) }
     ensures room { IfOk result (HasRoom ask.now) }
 
@@ -191,7 +204,7 @@ pub fn answer_picture<F: Folder>(
     ensures next { IsTrue (goes_on client ask.now pictures.old) → folder.new ≡ folder.old }
     ensures folder { IsSameFolder F.honest F.steady F.files folder.old folder.new }
 {
-    if !is_uri(ask.uri.as_str()) {
+    if !is_path(ask) {
         return Ok(PictureAnswer::NoPicture);
     }
     match answer_at(alloc, folder, pictures, client, ask) {

@@ -8,10 +8,10 @@ use Rattle.player_core.specs.declared.block.Block.{Block}
 use Rattle.player_core.specs.Staying.{takes}
 use Rattle.player_core.specs.Player.{left_by, without}
 
-takes-before : (block : Block) (at : ℕ) (entry : Entry) → at < block.start → takes block [] at entry ≡ false
+pub takes-before : (block : Block) (at : ℕ) (entry : Entry) → at < block.start → takes block [] at entry ≡ false
 takes-before block at entry low = rw (lt-leb block.start at low) refl
 
-takes-after : (block : Block) (at : ℕ) (entry : Entry) → block.end ≤ at → takes block [] at entry ≡ false
+pub takes-after : (block : Block) (at : ℕ) (entry : Entry) → block.end ≤ at → takes block [] at entry ≡ false
 takes-after block at entry high = rw (le-ltb at block.end high) (of (nat_le block.start at))
   where
     of : (b : Bool) → ((b && false) || false) ≡ false

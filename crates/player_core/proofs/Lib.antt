@@ -2,6 +2,7 @@ pub mod LastIds
 pub mod Least
 pub mod Leaving
 pub mod LeftBlock
+pub mod LeftIds
 pub mod Others
 pub mod DrawnOrder
 pub mod DrawnIds

@@ -1,7 +1,9 @@
 // What is kept of the random round: the ids that were started in it, by their last start. There is room for all that there may be, so that
 // no change of it takes memory.
 ghost use Rattle.std.specs.Prelude.{◌≡◌, [], not, nat_lt, length, filter, IfOk, if◌then◌else◌};
+ghost use Rattle.std.specs.Bool.{OnTrue};
 ghost use Rattle.player_core.specs.Place.{id_leaves, longest_round, with_id, with_last, without_id, IsRound};
+ghost use Rattle.player_core.specs.Removal.{IsFew, without_ids};
 
 use crate::block::Block;
 use crate::staying::takes_at;
@@ -12,6 +14,9 @@ use std::marker::Model;
 
 /// How many ids a round has at most: as many as the queue may have entries.
 pub const LONGEST_ROUND: usize = 65_536;
+
+// The ids of fewer entries than these leave one by one, by a pass over the round each.
+const FEW: usize = 8;
 
 /// The ids of a random round. Contracts see the list of them.
 #[derive(Debug, Drop)]
@@ -38,6 +43,16 @@ pub(crate) fn id_leaves(entries: &Entries, block: Block, dropped: &[Uri], id: u3
         Some(at) => takes_at(block, dropped, entries, at),
         None => false,
     }
+}
+
+// Whether a small block of the queue leaves, and nothing else.
+fn are_few(entries: &Entries, block: Block, dropped: &[Uri]) -> bool
+    ensures { OnTrue result (IsFew block dropped.now entries.now) }
+{
+    dropped.is_empty()
+        && block.start <= block.end
+        && block.end <= entries.len()
+        && block.end - block.start < FEW
 }
 
 impl KeptRound {
@@ -92,8 +107,29 @@ impl KeptRound {
         self.ids.clear();
     }
 
-    /// Entries leave the queue: those of a block, and those of dropped URIs; `entries` is the queue before. Each id is looked for once.
+    /// Entries leave the queue: those of a block, and those of dropped URIs; `entries` is the queue before. Where a block of less than 8
+    /// entries leaves alone, the ids are compared with theirs; else each id is looked for once.
     pub fn follow_removal(&mut self, entries: &Entries, block: Block, dropped: &[Uri])
+        ensures { self.new ≡ filter (λ id. not (id_leaves block dropped.now entries.now id)) self.old }
+    {
+        if are_few(entries, block, dropped) {
+            self.leave_each(&entries.ids()[block.start..block.end]);
+            return;
+        }
+        self.leave_found(entries, block, dropped);
+    }
+
+    // These ids leave the round.
+    fn leave_each(&mut self, ids: &[u32])
+        ensures { self.new ≡ without_ids ids.now self.old }
+    {
+        for id in ids {
+            self.leave(*id);
+        }
+    }
+
+    // The ids leave whose entries are found to leave.
+    fn leave_found(&mut self, entries: &Entries, block: Block, dropped: &[Uri])
         ensures { self.new ≡ filter (λ id. not (id_leaves block dropped.now entries.now id)) self.old }
     {
         self.ids

@@ -3,6 +3,6 @@
 pub use crate::player::play_once;
 pub use crate::scan::scan_once;
 pub use crate::under_lock::{
-    closed, count_replaced, enter, enter_group, keeps, locked, ordered, passed, rewound,
-    running_job, scan_ordered, settled, taken,
+    chunk_limit, closed, count_replaced, enter, enter_group, keeps, locked, ordered, passed,
+    rewound, running_job, scan_ordered, settled, taken,
 };

@@ -177,6 +177,13 @@ impl<D: Disk, C: Ledger, P: Ledger, S: Ledger> SharedStage<D, C, P, S> {
         laws::running_job(&*self.locked.lock(rt))
     }
 
+    /// How many bytes of a picture an answer to a client may have, by `laws::chunk_limit`. It is no event. It refuses `Broken` alone.
+    pub fn chunk_limit(&self, rt: &impl Wait, client: u64) -> Result<u32, LiveError>
+        ensures { IfErr result (λ e. e ≡ LiveError.Broken) }
+    {
+        laws::chunk_limit(&*self.locked.lock(rt), client)
+    }
+
     /// How many of these changes put another row in the place of a song's, by `laws::count_replaced`. It is no event.
     pub fn count_replaced(&self, rt: &impl Wait, changes: &[RowChange]) -> usize {
         laws::count_replaced(&*self.locked.lock(rt), changes)

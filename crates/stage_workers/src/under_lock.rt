@@ -4,6 +4,7 @@ ghost use Rattle.std.specs.Prelude.{IsErr, IfOk, IfErr, OnErr, OnOk, MatchResult
 ghost use Rattle.disk_model.specs.Later.{AreLater};
 ghost use Rattle.daemon_core.specs.Orders.{play_order, scan_order};
 ghost use Rattle.daemon_core.specs.Replay.{Entry};
+ghost use Rattle.daemon_core.specs.Seen.{view_of};
 ghost use Rattle.live_stage.specs.Group.{EndsThere, IsOfFront, history_in};
 ghost use Rattle.live_stage.specs.Turns.{RefusesToTell};
 ghost use Rattle.stage_workers.specs.declared.kind.Kind.{Kind};
@@ -247,6 +248,23 @@ pub fn running_job<D: Disk, C: Ledger, P: Ledger, S: Ledger>(
         return Err(LiveError::Broken);
     }
     Ok(live.running_job())
+}
+
+/// How many bytes of a picture an answer to a client may have. It takes no memory, and refuses `Broken` alone, where a disk failed.
+pub fn chunk_limit<D: Disk, C: Ledger, P: Ledger, S: Ledger>(
+    locked: &Locked<D, C, P, S>,
+    client: u64,
+) -> Result<u32, LiveError>
+    ensures limit { IfOk result (λ limit. limit ≡ (view_of locked.now.live.state.views client).limit) }
+    ensures refuses { IsErr result ↔ (locked.now.live.is_broken ≡ true) }
+    ensures nothing_else { IfErr result (λ e. e ≡ LiveError.Broken) }
+{
+    let live = &locked.live;
+    if live.is_broken() {
+        Err(LiveError::Broken)
+    } else {
+        Ok(live.chunk_limit(client))
+    }
 }
 
 /// How many of these changes put another row in the place of a song's. It takes no memory.

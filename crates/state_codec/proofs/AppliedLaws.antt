@@ -7,7 +7,7 @@ use Rattle.std.specs.List.{AllByRecursion}
 use Rattle.profile.specs.declared.profile.Profile.{Profile}
 use Rattle.profile.specs.declared.profile.Profile.TheVariants.{Named, Wide}
 use Rattle.state_codec.specs.declared.op.Op.{Op}
-use Rattle.state_codec.specs.declared.op.Op.TheVariants.{SetOption, SetVolume, SetOrder, Queue, List as Lists, Sticker, Batch, Place}
+use Rattle.state_codec.specs.declared.op.Op.TheVariants.{SetOption, SetVolume, SetOrder, Queue, List as Lists, Sticker, Batch, Place, Timed}
 use Rattle.state_codec.specs.declared.op.queue_op.QueueOp.{QueueOp}
 use Rattle.state_codec.specs.declared.op.queue_op.QueueOp.TheVariants as queue
 use Rattle.state_codec.specs.Changes.{are_kept}
@@ -79,6 +79,11 @@ kept_op (Place op) s none = of s.profile none
     of : (p : Profile) → place_refusal p ≡ None → KeepsPlace p
     of Named none = absurd (cc)
     of Wide none = tt
+kept_op (Timed seconds) s none = of s.profile none
+  where
+    of : (p : Profile) → place_refusal p ≡ None → KeepsPlace p
+    of Named none = absurd (cc)
+    of Wide none = tt
 
 queue_profile : (op : QueueOp) (s : SavedState) → (after_queue op s).profile ≡ s.profile
 queue_profile (queue.Add at rows) s = refl
@@ -98,6 +103,7 @@ same_profile (Lists op) s = refl
 same_profile (Sticker op) s = refl
 same_profile (Batch changes) s = refl
 same_profile (Place op) s = refl
+same_profile (Timed seconds) s = refl
 
 -- what ops that apply one after the other keep
 abbrev pub KeepsProfile : List Op → SavedState → SavedState → Type 0

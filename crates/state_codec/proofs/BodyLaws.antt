@@ -12,7 +12,7 @@ use Rattle.profile.specs.declared.profile.Profile.TheVariants.{Named, Wide}
 use Rattle.state_codec.specs.declared.refusal.CodecError.{CodecError}
 use Rattle.state_codec.specs.declared.layout.Layout.{Layout}
 use Rattle.state_codec.specs.declared.op.Op.{Op}
-use Rattle.state_codec.specs.declared.op.Op.TheVariants.{SetOption, SetVolume, SetOrder, Queue, List as OfList, Sticker, Batch, Place}
+use Rattle.state_codec.specs.declared.op.Op.TheVariants.{SetOption, SetVolume, SetOrder, Queue, List as OfList, Sticker, Batch, Place, Timed}
 use Rattle.state_codec.specs.declared.op.setting.Setting.{Setting}
 use Rattle.state_codec.specs.declared.op.setting.Setting.TheVariants as settings
 use Rattle.state_codec.specs.SavedState.{IsBytes}
@@ -167,6 +167,7 @@ in_written profile (OfList op) = tt
 in_written profile (Sticker op) = tt
 in_written profile (Batch changes) = tt
 in_written profile (Place op) = tt
+in_written profile (Timed seconds) = tt
 
 all_written : (profile : Profile) (ops : List Op) → AreOpsIn (layout_of (written_layout profile)) ops
 all_written profile [] = tt

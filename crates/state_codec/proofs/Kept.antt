@@ -1,12 +1,12 @@
 -- A fresh state is a saved state.
-use Rattle.std.proofs.Common.{◌≡◌, ℕ, List, true, get_or, length, Some, arith}
+use Rattle.std.proofs.Common.{◌≡◌, ℕ, List, [], true, get_or, length, Some, arith}
 use Rattle.std.specs.List.Sorted.{IsStrictlySortedBy}
 use Rattle.player_core.specs.declared.options.Options.{Options}
 use Rattle.profile.specs.declared.profile.Profile.{Profile}
 use Rattle.profile.specs.declared.profile.Profile.TheVariants.{Named, Wide}
 use Rattle.song_db.specs.Row.{Row, is_kept_by}
 use Rattle.player_core.specs.Place.{no_place}
-use Rattle.state_codec.specs.SavedState.{SavedState, IsSavedPlace, IsSavedState, IsBytes, first_place, fresh}
+use Rattle.state_codec.specs.SavedState.{SavedState, AreSavedTimes, IsSavedPlace, IsSavedState, IsBytes, first_place, first_times, fresh}
 use Rattle.state_codec.proofs.RowLaws.{IsKeptRow, fields_fit}
 use Rattle.state_codec.proofs.ToldLaws.{plain_short}
 
@@ -18,6 +18,10 @@ fresh_place Wide = record {
   played =
       record { few = omega arith; each = λ k d within. absurd (omega arith) };
 }
+
+fresh_times : (profile : Profile) → AreSavedTimes profile (first_times profile)
+fresh_times Named = tt
+fresh_times Wide = record { few = omega arith; each = λ k d within. absurd (omega arith) }
 
 pub fresh_kept : (profile : Profile) (key : List ℕ) (options : Options) → length key ≡ 32 → IsBytes key
     → IsSavedState (record (fresh profile key) { options = options })
@@ -45,6 +49,7 @@ fresh_kept profile key options long bytes = record {
   lists = record { rising = tt; within = record { few_lists = omega arith; few_entries = omega arith; good_lists = tt }; texts = tt };
   stickers = record { within = record { few = omega arith; good = tt; rising = tt }; each = tt };
   place = fresh_place profile;
+  changed = fresh_times profile;
 }
 
 -- the second profile keeps what any keeps
@@ -52,7 +57,7 @@ wide_row : (profile : Profile) (row : Row) → IsKeptRow profile row → is_kept
 wide_row Named row good = let told = (fields_fit Named row good).0.1.1.1.1 in plain_short row.tags told.1.0 told.1.1
 wide_row Wide row good = good.1
 
-pub wide_kept : (s : SavedState) → IsSavedState s → IsSavedState (record s { profile = Wide; place = Some no_place })
+pub wide_kept : (s : SavedState) → IsSavedState s → IsSavedState (record s { profile = Wide; place = Some no_place; changed = Some [] })
 wide_kept s saved = record {
   key_len = saved.key_len;
   key_bytes = saved.key_bytes;
@@ -69,4 +74,5 @@ wide_kept s saved = record {
     played =
         record { few = omega arith; each = λ k d within. absurd (omega arith) };
   };
+  changed = record { few = omega arith; each = λ k d within. absurd (omega arith) };
 }

@@ -22,8 +22,9 @@ use Rattle.stored_lists.specs.declared.refusal.ListsError.TheVariants.{ListsFull
 use Rattle.stored_lists.specs.Limits.{MAX_LISTS, MAX_ENTRIES}
 use Rattle.stored_lists.specs.Lists.{Stored, songs_of, songs_or_none, total, added_to, with_songs, is_full_for, name_refusal}
 use Rattle.stored_lists.specs.Lists.{new_list_refusal, add_refusal}
-use Rattle.stored_lists.specs.Name.{is_good_name}
+use Rattle.stored_lists.specs.Name.{IsListName, is_good_name}
 use Rattle.stored_lists.specs.Songs.{Uris, AreUris, without_range, moved}
+use Rattle.stored_lists.specs.Times.{Times, timed}
 use Rattle.stored_lists.proofs.Absent.{songs_or_none_present}
 use Rattle.stored_lists.proofs.Counted.{counted_uris, counted_fits, length-without_range, length-moved, uris-without_range, uris-moved}
 use Rattle.stored_lists.proofs.Counted.{uris-none}
@@ -41,13 +42,15 @@ use Rattle.state_codec.specs.declared.op.sticker_op.StickerOp.TheVariants as sti
 use Rattle.state_codec.specs.declared.refusal.OpRefusal.{OpRefusal}
 use Rattle.state_codec.specs.Applied.{refusal_of, after}
 use Rattle.state_codec.specs.Ops.{IsOp, IsQueueOp, IsListOp, IsStickerOp}
-use Rattle.state_codec.specs.OpsLists.{list_refusal, lists_after, uris_of}
+use Rattle.state_codec.specs.OpsLists.{leaves_lists, list_refusal, lists_after, lists_edited, uris_of}
 use Rattle.state_codec.specs.OpsQueue.{queue_refusal, after_queue, range, words_for}
 use Rattle.state_codec.specs.Changes.{are_kept}
 use Rattle.state_codec.specs.OpsRows.{if_kept, no_range}
 use Rattle.state_codec.specs.OpsSongs.{have_rows, uris_at, if_named}
 use Rattle.state_codec.specs.OpsStickers.{sticker_refusal, stickers_after}
+use Rattle.state_codec.specs.OpsTimes.{list_times, named_by}
 use Rattle.state_codec.specs.SavedState.{SavedState, IsSavedPlace, IsSavedState, IsSavedQueue, AreSavedLists, AreSavedStickers}
+use Rattle.state_codec.specs.SavedState.{AreSavedTimes}
 use Rattle.state_codec.specs.Text.{is_text}
 use Rattle.state_codec.proofs.Edits.{length-uris_at}
 use Rattle.state_codec.proofs.KeptLists.{kept_with_list, kept_with_songs, kept_without_list, kept_renamed}
@@ -55,6 +58,7 @@ use Rattle.state_codec.proofs.KeptQueue.{kept_added, kept_deleted, kept_moved, k
 use Rattle.state_codec.proofs.KeptRows.{kept_songs, kept_by_profile, kept_batch, stickers_left}
 use Rattle.state_codec.proofs.KeptStickers.{kept_filter, kept_set}
 use Rattle.state_codec.proofs.PlaceLaws.{kept_saved_left, kept_saved_place}
+use Rattle.state_codec.proofs.TimeLaws.{kept_list_times, kept_timed}
 use Rattle.state_codec.proofs.Named.{uris_have_rows, are_uris, entries_are_uris}
 
 pub map_none : {X Y : Type 0} (f : X → Y) (o : Option X) → option_map f o ≡ None → o ≡ None
@@ -133,6 +137,7 @@ with_queue s q order saved kept low = record {
   lists = saved.lists;
   stickers = saved.stickers;
   place = saved.place;
+  changed = saved.changed;
 }
 
 pub with_place : (s : SavedState) (place : Option PlaceState) → IsSavedState s → IsSavedPlace s.profile place
@@ -148,6 +153,23 @@ with_place s place saved kept = record {
   lists = saved.lists;
   stickers = saved.stickers;
   place = kept;
+  changed = saved.changed;
+}
+
+pub with_times : (s : SavedState) (times : Option Times) → IsSavedState s → AreSavedTimes s.profile times
+    → IsSavedState (record s { changed = times })
+with_times s times saved kept = record {
+  key_len = saved.key_len;
+  key_bytes = saved.key_bytes;
+  order = saved.order;
+  volume = saved.volume;
+  songs = saved.songs;
+  kept = saved.kept;
+  queue = saved.queue;
+  lists = saved.lists;
+  stickers = saved.stickers;
+  place = saved.place;
+  changed = kept;
 }
 
 next_low : (order : ℕ) → order < 18446744073709551616 → next_order order < 18446744073709551616
@@ -205,7 +227,7 @@ new_within all n none =
     let parts = or_false _ _ (cond_none _ _ _ none).0 in
     (not_le MAX_LISTS (length all) parts.0, not_less MAX_ENTRIES (total all + n) parts.1)
 
-utf8_of : (name : List ℕ) → IsTrue (is_text name) → IsTrue (is_utf8 name)
+pub utf8_of : (name : List ℕ) → IsTrue (is_text name) → IsTrue (is_utf8 name)
 utf8_of name form = (and_true (is_utf8 name) _ form).0
 
 pub with_lists : (s : SavedState) (all : Stored) → IsSavedState s → AreSavedLists all → IsSavedState (record s { lists = all })
@@ -220,6 +242,7 @@ with_lists s all saved kept = record {
   lists = kept;
   stickers = saved.stickers;
   place = saved.place;
+  changed = saved.changed;
 }
 
 -- new songs for a playlist that is there
@@ -329,6 +352,29 @@ kept_sticker (stickers.Set uri name value) s form saved none =
 kept_sticker (stickers.Delete uri name) s form saved none = kept_filter s.songs s.stickers _ saved.stickers
 kept_sticker (stickers.DeleteAll uri) s form saved none = kept_filter s.songs s.stickers _ saved.stickers
 
+-- the name that an op tells a time of is one that a playlist may have
+pub name_good : (op : ListOp) (s : SavedState) → list_refusal op s ≡ None → IsTrue (is_good_name (named_by op))
+name_good (lists.Save name) s none = not_none _ (cond_none _ _ _ (map_none _ _ none)).0
+name_good (lists.Add name rows) s none =
+    not_none _ (cond_none _ _ _ (map_none _ _ (named_none (have_rows s.songs rows) _ none).1)).0
+name_good (lists.Remove name start end) s none = not_none _ (cond_none _ _ _ (map_none _ _ none)).0
+name_good (lists.Move name from to) s none = not_none _ (cond_none _ _ _ (map_none _ _ none)).0
+name_good (lists.Clear name) s none = not_none _ (cond_none _ _ _ (map_none _ _ none)).0
+name_good (lists.Rename from to) s none = not_none _ (or_false _ _ (cond_none _ _ _ (map_none _ _ none)).0).1
+name_good (lists.Drop name) s none = not_none _ (cond_none _ _ _ (map_none _ _ none)).0
+
+name_text : (op : ListOp) → IsListOp op → IsTrue (is_utf8 (named_by op))
+name_text (lists.Save name) form = utf8_of name form
+name_text (lists.Add name rows) form = utf8_of name form.0
+name_text (lists.Remove name start end) form = utf8_of name form.0
+name_text (lists.Move name from to) form = utf8_of name form.0
+name_text (lists.Clear name) form = utf8_of name form
+name_text (lists.Rename from to) form = utf8_of to form.1
+name_text (lists.Drop name) form = utf8_of name form
+
+named_good : (op : ListOp) (s : SavedState) → IsListOp op → list_refusal op s ≡ None → IsListName (named_by op)
+named_good op s form none = record { good = name_good op s none; text = name_text op form }
+
 pub kept_after : (op : Op) (s : SavedState) → IsOp op → IsSavedState s → refusal_of op s ≡ None → IsSavedState (after op s)
 kept_after (ops.SetOption setting) s form saved none =
     record {
@@ -343,6 +389,7 @@ kept_after (ops.SetOption setting) s form saved none =
       lists = saved.lists;
       stickers = saved.stickers;
       place = saved.place;
+      changed = saved.changed;
     }
 kept_after (ops.SetVolume volume) s form saved none =
     record {
@@ -357,6 +404,7 @@ kept_after (ops.SetVolume volume) s form saved none =
       lists = saved.lists;
       stickers = saved.stickers;
       place = saved.place;
+      changed = saved.changed;
     }
 kept_after (ops.SetOrder order) s form saved none =
     record {
@@ -371,9 +419,13 @@ kept_after (ops.SetOrder order) s form saved none =
       lists = saved.lists;
       stickers = saved.stickers;
       place = saved.place;
+      changed = saved.changed;
     }
 kept_after (ops.Queue op) s form saved none = kept_queue op s form saved none
-kept_after (ops.List op) s form saved none = with_lists s (lists_after op s) saved (kept_list op s form saved none)
+kept_after (ops.List op) s form saved none =
+    with_times (lists_edited op s) (list_times (leaves_lists op s) op s.changed)
+    (with_lists s (lists_after op s) saved (kept_list op s form saved none))
+    (kept_list_times (leaves_lists op s) op s.profile s.changed (named_good op s form none) saved.changed)
 kept_after (ops.Sticker op) s form saved none = record {
   key_len = saved.key_len;
   key_bytes = saved.key_bytes;
@@ -385,6 +437,7 @@ kept_after (ops.Sticker op) s form saved none = record {
   lists = saved.lists;
   stickers = kept_sticker op s form saved none;
   place = saved.place;
+  changed = saved.changed;
 }
 kept_after (ops.Batch changes) s form saved none = record {
   key_len = saved.key_len;
@@ -400,6 +453,7 @@ kept_after (ops.Batch changes) s form saved none = record {
     each = stickers_left s.songs changes s.stickers saved.songs.database saved.stickers.each;
   };
   place = kept_saved_left no_range (drops_of changes) s.queue.entries s.profile s.place saved.place;
+  changed = saved.changed;
 }
 kept_after (ops.Place op) s form saved none = record {
   key_len = saved.key_len;
@@ -412,4 +466,7 @@ kept_after (ops.Place op) s form saved none = record {
   lists = saved.lists;
   stickers = saved.stickers;
   place = kept_saved_place op s.profile s.place form saved.place;
+  changed = saved.changed;
 }
+kept_after (ops.Timed seconds) s form saved none =
+    with_times s (option_map (timed seconds) s.changed) saved (kept_timed seconds s.profile s.changed form saved.changed)

@@ -4,7 +4,6 @@ use Rattle.std.proofs.Common.{arith, ◌<◌, ◌^◌, mul-le-mul_right}
 use Rattle.std.specs.Prelude.{Option, IsTrue, unwrap_or}
 use Rattle.std.specs.List.{AllByRecursion, flat_map, sum_by}
 use Rattle.std.specs.Int.{w16, to_le_bytes}
-use Rattle.std.specs.Option.{option_map_or}
 use Rattle.std.specs.Str.{is_utf8}
 use Rattle.std.proofs.lemmas.Bool.{leb-true}
 use Rattle.std.proofs.lemmas.List.{append-nil, length-append}
@@ -31,16 +30,17 @@ use Rattle.state_codec.specs.Changes.{IsSavedRow, IsChange, AreChanges, is_kept_
 use Rattle.state_codec.specs.declared.op.Op.TheVariants.{Batch}
 use Rattle.state_codec.specs.Longest.{longest_told, longest_row, longest_batch, longest_sticker, longest_end, longest_snapshot}
 use Rattle.state_codec.specs.ReadingRows.{Told}
-use Rattle.state_codec.specs.SavedState.{SavedState, IsSavedPlace, IsSavedState}
+use Rattle.state_codec.specs.SavedState.{SavedState, AreSavedTimes, IsSavedPlace, IsSavedState}
 use Rattle.state_codec.specs.Sealed.{checksum_len, sealed}
 use Rattle.state_codec.specs.Spelling.{options_bytes, entry_bytes, playlist_bytes, sticker_bytes, head_bytes, parts_bytes, saved_bytes}
 use Rattle.state_codec.specs.Spelling.{with_fields}
 use Rattle.state_codec.specs.SpellingFields.{byte_bytes, u32_bytes, u64_bytes, flag_bytes, single_bytes, text_bytes, list_bytes}
 use Rattle.state_codec.specs.SpellingOps.{op_bytes}
-use Rattle.state_codec.specs.SpellingPlace.{place_bytes}
+use Rattle.state_codec.specs.SpellingTimes.{fields_bytes}
+use Rattle.stored_lists.specs.Times.{Times}
 use Rattle.state_codec.specs.SpellingRows.{tag_bytes, stamp_bytes, numbered_bytes, texts_bytes, row_fields_bytes, row_bytes, change_bytes}
 use Rattle.state_codec.proofs.FieldLaws.{both_true}
-use Rattle.state_codec.proofs.PlaceFields.{place_short}
+use Rattle.state_codec.proofs.TimeFields.{fields_short}
 use Rattle.state_codec.proofs.RowLaws.{IsKeptRow, fields_fit}
 use Rattle.state_codec.proofs.SealedLaws.{sealed_len}
 use Rattle.state_codec.proofs.TagLaws.{IsTextOrNone, tag_text_short, six_good}
@@ -222,34 +222,41 @@ head_len s good =
       options_len s.options,
     )
 
--- the fields are those of the place, where one is kept
-pub fields_told : (profile : Profile) (place : Option PlaceState) → IsSavedPlace profile place
-    → with_fields profile place [] ≡ option_map_or place_bytes place []
-fields_told Named None good = refl
-fields_told Named (Some place) good = absurd good
-fields_told Wide None good = absurd good
-fields_told Wide (Some place) good = refl
+-- the fields of times and a place, where both are kept
+abbrev pub told_fields : Option Times → Option PlaceState → List ℕ
+told_fields None place = []
+told_fields (Some times) None = []
+told_fields (Some times) (Some place) = fields_bytes times place
+
+pub fields_told : (profile : Profile) (times : Option Times) (place : Option PlaceState) → AreSavedTimes profile times
+    → IsSavedPlace profile place → with_fields profile times place [] ≡ told_fields times place
+fields_told Named None place are good = refl
+fields_told Named (Some times) place are good = absurd are
+fields_told Wide None place are good = absurd are
+fields_told Wide (Some times) None are good = absurd good
+fields_told Wide (Some times) (Some place) are good = refl
 
 -- and stand behind the parts
-pub fields_behind : (profile : Profile) (place : Option PlaceState) (bytes : List ℕ)
-    → with_fields profile place bytes ≡ bytes ++ with_fields profile place []
-fields_behind Named place bytes = sym (append-nil bytes)
-fields_behind Wide place bytes = refl
+pub fields_behind : (profile : Profile) (times : Option Times) (place : Option PlaceState) (bytes : List ℕ)
+    → with_fields profile times place bytes ≡ bytes ++ with_fields profile times place []
+fields_behind Named times place bytes = sym (append-nil bytes)
+fields_behind Wide times place bytes = refl
 
 -- what stands behind the parts
-pub end_len : (profile : Profile) (place : Option PlaceState) (bytes : List ℕ)
-    → length (sealed profile (with_fields profile place bytes))
-    ≡ length bytes + length (with_fields profile place []) + checksum_len profile
-end_len Named place bytes = omega arith
-end_len Wide place bytes =
-    let fields = place_bytes (unwrap_or place no_place) in
+pub end_len : (profile : Profile) (times : Option Times) (place : Option PlaceState) (bytes : List ℕ)
+    → length (sealed profile (with_fields profile times place bytes))
+    ≡ length bytes + length (with_fields profile times place []) + checksum_len profile
+end_len Named times place bytes = omega arith
+end_len Wide times place bytes =
+    let fields = fields_bytes (unwrap_or times []) (unwrap_or place no_place) in
     omega (arith, sealed_len Wide (bytes ++ fields), length-append bytes fields)
 
-end_short : (profile : Profile) (place : Option PlaceState) → IsSavedPlace profile place
-    → length (with_fields profile place []) + checksum_len profile ≤ longest_end profile
-end_short Named place good = omega arith
-end_short Wide None good = absurd good
-end_short Wide (Some place) good = omega (arith, place_short place good)
+end_short : (profile : Profile) (times : Option Times) (place : Option PlaceState) → AreSavedTimes profile times → IsSavedPlace profile place
+    → length (with_fields profile times place []) + checksum_len profile ≤ longest_end profile
+end_short Named times place are good = omega arith
+end_short Wide None place are good = absurd are
+end_short Wide (Some times) None are good = absurd good
+end_short Wide (Some times) (Some place) are good = omega (arith, fields_short times place are good)
 
 pub rows_len : (profile : Profile) (rows : List Row) → AllByRecursion IsSavedRow rows → AllByRecursion (λ row. IsTrue (is_kept_by profile row)) rows
     → AllByRecursion (λ row. length (row_bytes profile row) ≤ longest_row profile) rows
@@ -313,8 +320,8 @@ snapshot_len s good =
     let row_count : length s.songs * row ≤ 65536 * row = mul-le-mul_right row good.songs.database.few in
     omega (
       arith,
-      end_len s.profile s.place (head_bytes s ++ parts_bytes s),
-      end_short s.profile s.place good.place,
+      end_len s.profile s.changed s.place (head_bytes s ++ parts_bytes s),
+      end_short s.profile s.changed s.place good.changed good.place,
       parts_short s row good rows_short row_count,
       longest_is s.profile,
     )

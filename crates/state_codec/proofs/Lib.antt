@@ -32,6 +32,8 @@ pub mod Edits
 pub mod Kept
 pub mod KeptLists
 pub mod PlaceLaws
+pub mod TimeFields
+pub mod TimeLaws
 pub mod KeptOps
 pub mod KeptQueue
 pub mod KeptRows

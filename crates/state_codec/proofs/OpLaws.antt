@@ -14,7 +14,7 @@ use Rattle.song_db.specs.declared.change.RowChange.TheVariants.{Put, Drop}
 use Rattle.stickers.specs.Value.{is_good_value}
 use Rattle.state_codec.specs.declared.layout.Layout.{Layout}
 use Rattle.state_codec.specs.declared.op.Op.{Op}
-use Rattle.state_codec.specs.declared.op.Op.TheVariants.{SetOption, SetVolume, SetOrder, Queue, List as OfList, Sticker, Batch, Place}
+use Rattle.state_codec.specs.declared.op.Op.TheVariants.{SetOption, SetVolume, SetOrder, Queue, List as OfList, Sticker, Batch, Place, Timed}
 use Rattle.state_codec.specs.declared.op.setting.Setting.{Setting}
 use Rattle.state_codec.specs.declared.op.setting.Setting.TheVariants as settings
 use Rattle.state_codec.specs.declared.op.queue_op.QueueOp.{QueueOp}
@@ -33,9 +33,10 @@ use Rattle.state_codec.specs.Numbers.{MAX_COUNT, AreRowNumbers, AreOpRanges}
 use Rattle.state_codec.specs.Ops.{IsOp, IsKeptOp, KeepsPlace, AreNumbers, IsQueueOp, IsListOp, IsStickerOp, IsPlaceOp, IsText}
 use Rattle.state_codec.specs.ReadingOps.{setting_at, row_numbers_at, ranges_at, queue_op_at, list_op_at, value_at, sticker_op_at, op_at}
 use Rattle.state_codec.specs.ReadingPlace.{is_place_kind, place_op_at, spot_at}
+use Rattle.state_codec.specs.ReadingTimes.{is_time_kind}
 use Rattle.state_codec.specs.ReadingRows.{uri_at, row_at, change_at, changes_at}
 use Rattle.state_codec.specs.SavedState.{IsBytes}
-use Rattle.state_codec.specs.SpellingFields.{byte_bytes, u32_bytes, pair_bytes, flag_bytes, single_bytes, text_bytes}
+use Rattle.state_codec.specs.SpellingFields.{byte_bytes, u32_bytes, u64_bytes, pair_bytes, flag_bytes, single_bytes, text_bytes}
 use Rattle.state_codec.specs.SpellingOps.{setting_bytes, row_numbers_bytes, ranges_bytes, queue_kind, queue_fields, list_kind, list_fields}
 use Rattle.state_codec.specs.SpellingOps.{sticker_kind, sticker_fields, place_kind, place_fields, op_bytes}
 use Rattle.state_codec.specs.SpellingRows.{row_bytes, change_bytes, changes_bytes}
@@ -500,6 +501,11 @@ place_within : (profile : Profile) (n : ℕ) → is_place_kind profile n ≡ tru
 place_within Named n h = absurd (false≢true h)
 place_within Wide n h = let r = within 22 25 n h in (r.0, (r.1, tt))
 
+-- and one that tells a time
+time_within : (profile : Profile) (n : ℕ) → is_time_kind profile n ≡ true → (eqb n 21 ≡ true) × KeepsPlace profile
+time_within Named n h = absurd (false≢true h)
+time_within Wide n h = (h, tt)
+
 pub op_takes : (layout : Layout) (bytes : List ℕ) (y : Op × List ℕ) → IsBytes bytes → op_at layout bytes ≡ Ok y
     → Takes bytes (op_bytes layout.profile y.0) y.1 × IsReadOp layout y.0
 unfolding op_at
@@ -530,11 +536,15 @@ op_takes layout bytes y fits e =
                 | inr n6 ↦ elim (chosen (eqb k 20) _ _ (Ok y) n6.1) [
                   | inl h ↦ alone layout Batch 20 k bytes rest (λ s. changes_at layout.profile s) _ _ (changes_is layout.profile) front h.0 (λ a. refl)
                       (λ a g. (g.0, (tt, g.1))) y h.1
-                  | inr n7 ↦ elim (chosen (is_place_kind layout.profile k) _ _ (Ok y) n7.1) [
-                    | inl h ↦ let r = place_within layout.profile k h.0 in of_family layout Place place_kind place_fields IsPlaceOp k bytes
-                        rest (place_op_at k rest) front (λ z f. place_takes k rest z r.0 r.1.0 front.rest_fits f) (λ a. refl)
-                        (λ a g. (g, (tt, r.1.1))) y h.1
-                    | inr n8 ↦ let h = n8.1 in absurd cc
+                  | inr n7 ↦ elim (chosen (is_time_kind layout.profile k) _ _ (Ok y) n7.1) [
+                    | inl h ↦ let r = time_within layout.profile k h.0 in alone layout Timed 21 k bytes rest (λ s. u64_at s) _ _ u64_is
+                        front r.0 (λ a. refl) (λ a g. (g, (tt, r.1))) y h.1
+                    | inr n8 ↦ elim (chosen (is_place_kind layout.profile k) _ _ (Ok y) n8.1) [
+                      | inl h ↦ let r = place_within layout.profile k h.0 in of_family layout Place place_kind place_fields IsPlaceOp k bytes
+                          rest (place_op_at k rest) front (λ z f. place_takes k rest z r.0 r.1.0 front.rest_fits f) (λ a. refl)
+                          (λ a g. (g, (tt, r.1.1))) y h.1
+                      | inr n9 ↦ let h = n9.1 in absurd cc
+                    ]
                   ]
                 ]
               ]
@@ -581,6 +591,12 @@ place_kinds layout Wide is keeps (places.Played id) rest = rw is refl
 place_kinds layout Wide is keeps places.Begins rest = rw is refl
 place_kinds layout Wide is keeps (places.Leaves id) rest = rw is refl
 
+time_kind : (layout : Layout) (profile : Profile) → layout.profile ≡ profile → KeepsPlace profile → (rest : List ℕ)
+    → op_at layout (21 ∷ rest) ≡ made Timed (u64_at rest)
+unfolding op_at
+time_kind layout Named is none rest = absurd none
+time_kind layout Wide is keeps rest = rw is refl
+
 pub op_again : (layout : Layout) (op : Op) (rest : List ℕ) → IsOp op → IsOpIn layout op → IsKeptOp layout.profile op
     → op_at layout (op_bytes layout.profile op ++ rest) ≡ Ok (op, rest)
 unfolding op_at
@@ -595,6 +611,8 @@ op_again layout (Sticker op) rest good in_layout kept = sticker_kinds layout op 
 op_again layout (Batch changes) rest good in_layout kept = ap (made Batch) ((changes_is layout.profile).again changes rest (good, kept))
 op_again layout (Place op) rest good in_layout kept = place_kinds layout layout.profile refl kept op (place_fields op ++ rest)
     ∙ ap (made Place) (place_again op rest good)
+op_again layout (Timed seconds) rest good in_layout kept = time_kind layout layout.profile refl kept (u64_bytes seconds ++ rest)
+    ∙ ap (made Timed) (u64_is.again seconds rest good)
 
 -- an op takes a byte at least
 pub op_spelled : (profile : Profile) (op : Op) → 1 ≤ length (op_bytes profile op)
@@ -606,3 +624,4 @@ op_spelled profile (OfList op) = omega arith
 op_spelled profile (Sticker op) = omega arith
 op_spelled profile (Batch changes) = omega arith
 op_spelled profile (Place op) = omega arith
+op_spelled profile (Timed seconds) = omega arith

@@ -6,17 +6,18 @@ use Rattle.player_core.specs.declared.options.Options.{Options}
 use Rattle.player_core.specs.declared.options.Single.{Single as SingleMode}
 use Rattle.player_core.specs.declared.options.Single.TheVariants.{Off, On, Oneshot}
 use Rattle.play_queue.specs.Queue.{QueueState}
-use Rattle.stored_lists.specs.Lists.{Stored}
+use Rattle.stored_lists.specs.Times.{Times}
 use Rattle.stickers.specs.Sticker.{Sticker as Stuck}
 use Rattle.state_codec.specs.Applied.{refusal_of, after, changes_nothing}
-use Rattle.state_codec.specs.Laws.{but_place, is_batch, is_place, with_queue_of, with_parts_of, uses_order}
+use Rattle.state_codec.specs.Laws.{but_kept, is_batch, is_behind, with_queue_of, with_parts_of, uses_order}
 use Rattle.state_codec.specs.OpsLists.{list_refusal, leaves_lists, after_list}
 use Rattle.state_codec.specs.OpsQueue.{queue_refusal, leaves_queue, after_queue}
 use Rattle.state_codec.specs.OpsSettings.{with_setting, same_flag, same_single, is_set}
 use Rattle.state_codec.specs.OpsStickers.{sticker_refusal, leaves_stickers}
+use Rattle.state_codec.specs.OpsTimes.{list_times}
 use Rattle.state_codec.specs.SavedState.{SavedState, IsSavedState}
 use Rattle.state_codec.specs.declared.op.Op.{Op}
-use Rattle.state_codec.specs.declared.op.Op.TheVariants.{SetOption, SetVolume, SetOrder, Queue, List as Lists, Sticker, Batch, Place}
+use Rattle.state_codec.specs.declared.op.Op.TheVariants.{SetOption, SetVolume, SetOrder, Queue, List as Lists, Sticker, Batch, Place, Timed}
 use Rattle.state_codec.specs.declared.op.setting.Setting.{Setting}
 use Rattle.state_codec.specs.declared.op.setting.Setting.TheVariants.{Repeat, Random, Single, Consume}
 use Rattle.state_codec.specs.declared.op.queue_op.QueueOp.{QueueOp}
@@ -26,6 +27,7 @@ use Rattle.state_codec.specs.declared.op.list_op.ListOp.TheVariants as lists
 use Rattle.state_codec.specs.declared.op.sticker_op.StickerOp.{StickerOp}
 use Rattle.state_codec.specs.declared.op.sticker_op.StickerOp.TheVariants as stickers
 use Rattle.state_codec.proofs.PlaceLaws.{place_only, place_stays}
+use Rattle.state_codec.proofs.TimeLaws.{times_only, times_stay}
 use Rattle.state_codec.proofs.QueueUnchanged.{queue_apart, queue_stays, queue_only, queue_version}
 use Rattle.state_codec.proofs.ListsUnchanged.{lists_stay, lists_only}
 use Rattle.state_codec.proofs.StickersUnchanged.{stickers_stay, stickers_only}
@@ -77,11 +79,13 @@ op_stays (SetOption setting) s saved none same =
 op_stays (SetVolume volume) s saved none same = ap (λ (n : ℕ). record s { volume = n }) (eqb-true volume s.volume same)
 op_stays (SetOrder order) s saved none same = ap (λ (n : ℕ). record s { order = n }) (eqb-true order s.order same)
 op_stays (Queue op) s saved none same = queue_stays op s none same
-op_stays (Lists op) s saved none same = ap (λ (l : Stored). record s { lists = l }) (lists_stay op s none same)
+op_stays (Lists op) s saved none same =
+    λ i. record s { lists = lists_stay op s none same i; changed = list_times (same i) op s.changed }
 op_stays (Sticker op) s saved none same = ap (λ (l : List Stuck). record s { stickers = l }) (stickers_stay op s saved same)
 op_stays (Batch changes) s saved none same = batch_stays changes s saved same
 op_stays (Place op) s saved none same = ap (λ (p : Option PlaceState). record s { place = p })
     (place_stays op s.profile s.place saved.place same)
+op_stays (Timed seconds) s saved none same = ap (λ (times : Option Times). record s { changed = times }) (times_stay seconds s.changed same)
 
 pub op_only : (op : Op) (s : SavedState) → IsSavedState s → refusal_of op s ≡ None → is_batch op ≡ false → after op s ≡ s
     → changes_nothing op s ≡ true
@@ -93,18 +97,20 @@ op_only (Lists op) s saved none one same = lists_only op s none (ap (λ (t : Sav
 op_only (Sticker op) s saved none one same = stickers_only op s saved none (ap (λ (t : SavedState). t.stickers) same)
 op_only (Batch changes) s saved none one same = absurd (cc)
 op_only (Place op) s saved none one same = place_only op s.place (ap (λ (t : SavedState). t.place) same)
+op_only (Timed seconds) s saved none one same = times_only seconds s.changed (ap (λ (t : SavedState). t.changed) same)
 
--- an op other than one of the place that changes anything changes more than the place
-pub op_apart : (op : Op) (place : Option PlaceState) (s : SavedState) → IsSavedState s → refusal_of op s ≡ None → is_batch op ≡ false
-    → is_place op ≡ false → after op s ≡ but_place place s → changes_nothing op s ≡ true
-op_apart (SetOption setting) place s saved none one far same = setting_only setting s.options (ap (λ (t : SavedState). t.options) same)
-op_apart (SetVolume volume) place s saved none one far same = eq-eqb volume s.volume (ap (λ (t : SavedState). t.volume) same)
-op_apart (SetOrder order) place s saved none one far same = eq-eqb order s.order (ap (λ (t : SavedState). t.order) same)
-op_apart (Queue op) place s saved none one far same = queue_apart op place s none same
-op_apart (Lists op) place s saved none one far same = lists_only op s none (ap (λ (t : SavedState). t.lists) same)
-op_apart (Sticker op) place s saved none one far same = stickers_only op s saved none (ap (λ (t : SavedState). t.stickers) same)
-op_apart (Batch changes) place s saved none one far same = absurd (cc)
-op_apart (Place op) place s saved none one far same = absurd (cc)
+-- an op other than those of the place and of a time that changes anything changes more than place and times
+pub op_apart : (op : Op) (other : SavedState) (s : SavedState) → IsSavedState s → refusal_of op s ≡ None → is_batch op ≡ false
+    → is_behind op ≡ false → after op s ≡ but_kept other s → changes_nothing op s ≡ true
+op_apart (SetOption setting) other s saved none one far same = setting_only setting s.options (ap (λ (t : SavedState). t.options) same)
+op_apart (SetVolume volume) other s saved none one far same = eq-eqb volume s.volume (ap (λ (t : SavedState). t.volume) same)
+op_apart (SetOrder order) other s saved none one far same = eq-eqb order s.order (ap (λ (t : SavedState). t.order) same)
+op_apart (Queue op) other s saved none one far same = queue_apart op other s none same
+op_apart (Lists op) other s saved none one far same = lists_only op s none (ap (λ (t : SavedState). t.lists) same)
+op_apart (Sticker op) other s saved none one far same = stickers_only op s saved none (ap (λ (t : SavedState). t.stickers) same)
+op_apart (Batch changes) other s saved none one far same = absurd (cc)
+op_apart (Place op) other s saved none one far same = absurd (cc)
+op_apart (Timed seconds) other s saved none one far same = absurd (cc)
 
 queue_alone : (op : QueueOp) (s : SavedState) → after_queue op s ≡ with_queue_of op s (after_queue op s)
 queue_alone (queue.Add at rows) s = refl
@@ -123,6 +129,7 @@ op_alone (Lists op) s = refl
 op_alone (Sticker op) s = refl
 op_alone (Batch changes) s = refl
 op_alone (Place op) s = refl
+op_alone (Timed seconds) s = refl
 
 same_both : (q : QueueState) → (q.version ≡ q.version) ↔ (q ≡ q)
 same_both q = (λ same. refl, λ same. refl)
@@ -136,6 +143,7 @@ op_version (Lists op) s = same_both s.queue
 op_version (Sticker op) s = same_both s.queue
 op_version (Batch changes) s = batch_version changes s
 op_version (Place op) s = same_both s.queue
+op_version (Timed seconds) s = same_both s.queue
 
 abbrev ordered : ℕ → SavedState → SavedState
 ordered order s = record s { order = order }
@@ -171,6 +179,7 @@ op_refused (Lists op) order s = list_refused op order s
 op_refused (Sticker op) order s = sticker_refused op order s
 op_refused (Batch changes) order s = refl
 op_refused (Place op) order s = refl
+op_refused (Timed seconds) order s = refl
 
 queue_nothing : (op : QueueOp) (order : ℕ) (s : SavedState) → leaves_queue op (ordered order s) ≡ leaves_queue op s
 queue_nothing (queue.Add at rows) order s = refl
@@ -204,6 +213,7 @@ op_nothing (Lists op) order s apart = list_nothing op order s
 op_nothing (Sticker op) order s apart = sticker_nothing op order s
 op_nothing (Batch changes) order s apart = refl
 op_nothing (Place op) order s apart = refl
+op_nothing (Timed seconds) order s apart = refl
 
 queue_first : (op : QueueOp) (order : ℕ) (s : SavedState) → uses_order (Queue op) ≡ false
     → after_queue op (ordered order s) ≡ ordered order (after_queue op s)
@@ -232,3 +242,4 @@ op_first (Lists op) order s apart = list_first op order s
 op_first (Sticker op) order s apart = refl
 op_first (Batch changes) order s apart = refl
 op_first (Place op) order s apart = refl
+op_first (Timed seconds) order s apart = refl

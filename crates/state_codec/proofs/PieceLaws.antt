@@ -5,7 +5,7 @@ use Rattle.std.specs.Prelude.{IsTrue}
 use Rattle.std.specs.Global.{Vec}
 use Rattle.std.specs.List.{AllByRecursion, flat_map}
 use Rattle.std.specs.Option.{option_map_or}
-use Rattle.std.proofs.lemmas.List.{length-append}
+use Rattle.std.proofs.lemmas.List.{append-nil, length-append, nil_from_length}
 use Rattle.std.proofs.lemmas.List.Concat.{flat_map-cons}
 use Rattle.std.proofs.lemmas.List.Sums.{sum_by-cons}
 use Rattle.player_core.specs.Place.{PlaceState}
@@ -17,17 +17,20 @@ use Rattle.stickers.specs.Sticker.{Sticker, IsSticker, IsWithinLimits as AreStic
 use Rattle.stored_lists.specs.Lists.{Stored, IsWithinLimits as AreLists, total}
 use Rattle.stored_lists.specs.Name.{is_good_name}
 use Rattle.stored_lists.specs.Songs.{AreUris}
+use Rattle.stored_lists.specs.Times.{Times}
+use Rattle.state_codec.specs.Appended.{Appends}
 use Rattle.state_codec.specs.Changes.{IsSavedRow}
 use Rattle.state_codec.specs.Checksum.{with_byte, ONES}
 use Rattle.state_codec.specs.Longest.{longest_row}
-use Rattle.state_codec.specs.Pieces.{HadNone, HandsOver, IsListItem, IsStickerItem, longest_item, sealed_from}
-use Rattle.state_codec.specs.SavedState.{SavedState, IsSavedState}
+use Rattle.state_codec.specs.Pieces.{HadNone, HandsOver, IsListItem, IsStickerItem, front_of_fields, longest_item, sealed_from}
+use Rattle.state_codec.specs.SavedState.{SavedState, AreSavedTimes, IsSavedPlace, IsSavedState}
 use Rattle.state_codec.specs.Sealed.{sealed}
-use Rattle.state_codec.specs.Spelling.{entry_bytes, head_bytes, parts_bytes, playlist_bytes, sticker_bytes, with_fields}
+use Rattle.state_codec.specs.Spelling.{entry_bytes, fields_of, head_bytes, parts_bytes, playlist_bytes, sticker_bytes, with_fields}
 use Rattle.state_codec.specs.SpellingFields.{list_bytes, u32_bytes}
-use Rattle.state_codec.specs.SpellingPlace.{place_bytes, place_head}
+use Rattle.state_codec.specs.SpellingPlace.{place_head}
+use Rattle.state_codec.specs.SpellingTimes.{time_bytes}
 use Rattle.state_codec.specs.SpellingRows.{row_bytes}
-use Rattle.state_codec.proofs.LengthLaws.{fields_behind, fields_told, rows_len, name_len, sticker_len}
+use Rattle.state_codec.proofs.LengthLaws.{fields_behind, fields_told, rows_len, told_fields, name_len, sticker_len}
 use Rattle.state_codec.proofs.Rising.{all_in_turn, all_weaker}
 use Rattle.state_codec.proofs.SnapshotLaws.{short_sticker}
 
@@ -112,6 +115,18 @@ item_over before after item rest left put room is short = record {
   few = omega (arith, ap (λ (l : List ℕ). length l) put, length-append before.items item, short);
 }
 
+-- where no byte was put nothing was left
+pub put_none : (before after : Vec ℕ) (text left : List ℕ) → Appends before after text → length after.items ≤ length before.items → text ≡ left
+    → HadNone before after left []
+put_none before after text left put short is =
+    let none : text ≡ [] =
+    nil_from_length text (omega (arith, ap (λ (l : List ℕ). length l) put.items, length-append before.items text, short)) in
+    record {
+      none = sym is ∙ none;
+      still_none = refl;
+      same = put.items ∙ ap (λ (l : List ℕ). before.items ++ l) none ∙ append-nil before.items;
+    }
+
 -- ---- what stands behind the parts
 
 fold_on : (start : ℕ) (xs ys : List ℕ) → fold with_byte start (xs ++ ys) ≡ fold with_byte (fold with_byte start xs) ys
@@ -138,27 +153,41 @@ sealed_fits Wide sum bytes = omega (arith, length-append bytes (u32_bytes (bit_x
 
 -- ---- the parts and the fields, one behind the other
 
-place_parts : (place : Option PlaceState)
-    → option_map_or place_bytes place [] ≡ option_map_or place_head place [] ++ option_map_or (λ (p : PlaceState). flat_map u32_bytes p.played) place []
-place_parts None = refl
-place_parts (Some place) = refl
+-- the fields by their items
+abbrev pub ids_in : Option PlaceState → List ℕ
+ids_in place = option_map_or (λ (p : PlaceState). flat_map u32_bytes p.played) place []
+
+abbrev pub field_items : Option Times → Option PlaceState → List ℕ
+field_items times place =
+    front_of_fields times place ++ (option_map_or (flat_map time_bytes) times [] ++ (option_map_or place_head place [] ++ ids_in place))
+
+told_items : (profile : Profile) (times : Option Times) (place : Option PlaceState) → AreSavedTimes profile times → IsSavedPlace profile place
+    → told_fields times place ≡ field_items times place
+told_items Named None None are good = refl
+told_items Named None (Some place) are good = absurd good
+told_items Named (Some times) place are good = absurd are
+told_items Wide None place are good = absurd are
+told_items Wide (Some times) None are good = absurd good
+told_items Wide (Some times) (Some place) are good = refl
+
+-- those of a state
+pub fields_left : (s : SavedState) → IsSavedState s → field_items s.changed s.place ≡ fields_of s
+fields_left s saved =
+    sym (fields_told s.profile s.changed s.place saved.changed saved.place ∙ told_items s.profile s.changed s.place saved.changed saved.place)
 
 in_a_row : (head rows entries lists stickers fields : List ℕ)
     → head ++ (rows ++ (entries ++ (lists ++ (stickers ++ fields)))) ≡ (head ++ (rows ++ (entries ++ (lists ++ stickers)))) ++ fields
 in_a_row head rows entries lists stickers fields = simp append_assoc
 
-pub parts_left : (s : SavedState) → IsSavedState s
+pub parts_left : (s : SavedState)
     → head_bytes s
     ++ (list_bytes (row_bytes s.profile) s.songs
     ++ (list_bytes (entry_bytes s.songs) s.queue.entries
     ++ (list_bytes playlist_bytes s.lists
     ++ (list_bytes sticker_bytes s.stickers
-    ++ (option_map_or place_head s.place [] ++ option_map_or (λ (p : PlaceState). flat_map u32_bytes p.played) s.place [])))))
-    ≡ with_fields s.profile s.place (head_bytes s ++ parts_bytes s)
-parts_left s saved =
-    let fields = option_map_or place_head s.place [] ++ option_map_or (λ (p : PlaceState). flat_map u32_bytes p.played) s.place [] in
-    let text = head_bytes s ++ parts_bytes s in
+    ++ fields_of s))))
+    ≡ with_fields s.profile s.changed s.place (head_bytes s ++ parts_bytes s)
+parts_left s =
     in_a_row (head_bytes s) (list_bytes (row_bytes s.profile) s.songs) (list_bytes (entry_bytes s.songs) s.queue.entries)
-    (list_bytes playlist_bytes s.lists) (list_bytes sticker_bytes s.stickers) fields
-    ∙ ap (λ (l : List ℕ). text ++ l) (sym (fields_told s.profile s.place saved.place ∙ place_parts s.place))
-    ∙ sym (fields_behind s.profile s.place text)
+    (list_bytes playlist_bytes s.lists) (list_bytes sticker_bytes s.stickers) (fields_of s)
+    ∙ sym (fields_behind s.profile s.changed s.place (head_bytes s ++ parts_bytes s))

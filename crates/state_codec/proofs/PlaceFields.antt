@@ -5,23 +5,23 @@ use Rattle.std.specs.Int.{is_in_range}
 use Rattle.std.specs.List.{flat_map, AllByRecursion}
 use Rattle.std.proofs.lemmas.Bool.{eqb-true, eqb-false, eq-eqb, false≢true, not-true, not-false}
 use Rattle.std.proofs.lemmas.Bool.Decides.{nat_tests}
-use Rattle.std.proofs.lemmas.List.{append-nil, length-append}
+use Rattle.std.proofs.lemmas.List.{length-append}
 use Rattle.std.proofs.lemmas.List.Concat.{flat_map-cons}
 use Rattle.player_core.specs.Place.{PlaceState, IsPlace, IsRound, longest_round, no_place}
 use Rattle.player_core.specs.declared.playing.PlayState.{PlayState}
 use Rattle.player_core.specs.declared.playing.PlayState.TheVariants.{Stop, Play, Pause}
-use Rattle.state_codec.specs.Fields.{Field, such, both, byte_at, u32_at, u64_at}
+use Rattle.state_codec.specs.Fields.{Field, such, both, u32_at, u64_at}
 use Rattle.state_codec.specs.Items.{items_at}
 use Rattle.state_codec.specs.OpsPlace.{is_empty, same_state, stays_by}
-use Rattle.state_codec.specs.ReadingPlace.{Spot, field_at, is_next, is_spot, measured, no_spot, place_at, round_field_at}
+use Rattle.state_codec.specs.ReadingPlace.{Spot, field_at, is_next, is_spot, measured, no_spot, round_field_at}
 use Rattle.state_codec.specs.ReadingPlace.{spot_at, spot_field_at, state_at}
 use Rattle.state_codec.specs.SavedState.{IsBytes}
-use Rattle.state_codec.specs.SpellingFields.{byte_bytes, state_bytes, u32_bytes, u64_bytes}
+use Rattle.state_codec.specs.SpellingFields.{state_bytes, u32_bytes, u64_bytes}
 use Rattle.state_codec.specs.Steps.{◌>>=◌}
 use Rattle.state_codec.specs.SpellingOps.{place_fields}
 use Rattle.state_codec.specs.SpellingPlace.{field_count, place_bytes, place_head, round_head, spot_bytes, spot_field, told_spot}
 use Rattle.state_codec.specs.declared.op.place_op.PlaceOp.TheVariants.{Put}
-use Rattle.state_codec.proofs.FieldLaws.{Any, IsBytes-rest, IsField, Takes, Takes-then, bind_ok, both_is, both_true, byte_is, ok_is}
+use Rattle.state_codec.proofs.FieldLaws.{Any, IsBytes-rest, IsField, Takes, Takes-then, bind_ok, both_is, both_true, ok_is}
 use Rattle.state_codec.proofs.FieldLaws.{passed_ok, such_is, taken, u32_is, u64_is}
 use Rattle.state_codec.proofs.ItemLaws.{alone_is, items_again, items_take}
 use Rattle.state_codec.proofs.ListLaws.{all_by, by_all}
@@ -69,7 +69,7 @@ pub record IsValue {A : Type 0} (fits : ℕ → Bool) (value : ℕ → List ℕ 
   pub again : (a : A) (rest : List ℕ) → Good a → value (length (text a)) (text a ++ rest) ≡ Ok (a, rest)
   pub len : (a : A) → Good a → (length (text a) < 2 ^ 32) × (fits (length (text a)) ≡ true)
 
-abbrev measured_text : {A : Type 0} → (A → List ℕ) → A → List ℕ
+abbrev pub measured_text : {A : Type 0} → (A → List ℕ) → A → List ℕ
 measured_text text a = u32_bytes (length (text a)) ++ text a
 
 measured_takes : {A : Type 0} (fits : ℕ → Bool) (value : ℕ → List ℕ → Field A) (text : A → List ℕ) (Good : A → Type 0)
@@ -124,7 +124,7 @@ next_so number left = of (eqb (left + 1) 0) refl
     of true none = absurd (omega (arith, eqb-true (left + 1) 0 none))
     of false some = eq-eqb number number refl
 
-field_takes : {A : Type 0} (number : ℕ) (fits : ℕ → Bool) (value : ℕ → List ℕ → Field A) (text : A → List ℕ) (Good : A → Type 0)
+pub field_takes : {A : Type 0} (number : ℕ) (fits : ℕ → Bool) (value : ℕ → List ℕ → Field A) (text : A → List ℕ) (Good : A → Type 0)
     → IsValue fits value text Good → (other : A) (left : ℕ) (bytes : List ℕ) (x : (A × ℕ) × List ℕ) → IsBytes bytes
     → field_at number fits value other left bytes ≡ Ok x → May number text Good other left bytes x
 unfolding field_at
@@ -161,14 +161,22 @@ field_again number fits value text Good is other a left rest good =
     let less : left + 1 - 1 ≡ left = omega arith in
     rw (next_so number left, measured_again fits value text Good is a rest good, less) refl
 
-field_none : {A : Type 0} (number : ℕ) (fits : ℕ → Bool) (value : ℕ → List ℕ → Field A) (other : A) (left : ℕ) (bytes : List ℕ)
+-- of another field's number it isn't
+pub next_none : (number left b : ℕ) (rest : List ℕ) → eqb b number ≡ false → is_next number left (b ∷ rest) ≡ false
+next_none number left b rest other = of (not (eqb left 0))
+  where
+    of : (some : Bool) → (some && eqb b number) ≡ false
+    of true = other
+    of false = refl
+
+pub field_none : {A : Type 0} (number : ℕ) (fits : ℕ → Bool) (value : ℕ → List ℕ → Field A) (other : A) (left : ℕ) (bytes : List ℕ)
     → is_next number left bytes ≡ false → field_at number fits value other left bytes ≡ Ok ((other, left), bytes)
 unfolding field_at
 field_none number fits value other left bytes none = rw none refl
 
 -- ---- both fields
 
-abbrev IsTold : Spot → Type 0
+abbrev pub IsTold : Spot → Type 0
 IsTold spot = IsSpot spot × (is_spot spot ≡ true)
 
 told_is : IsField (λ bytes. such is_spot spot_at bytes) spot_text IsTold
@@ -186,10 +194,10 @@ spot_value = record {
   len = λ spot good. (omega (arith, spot_len spot), ap (is_in_range 13 13) (spot_len spot));
 }
 
-abbrev ids_text : List ℕ → List ℕ
+abbrev pub ids_text : List ℕ → List ℕ
 ids_text ids = flat_map u32_bytes ids
 
-abbrev IsSome : List ℕ → Type 0
+abbrev pub IsSome : List ℕ → Type 0
 IsSome ids = IsRound ids × (is_empty ids ≡ false)
 
 ids_len : (ids : List ℕ) → length (ids_text ids) ≡ 4 * length ids
@@ -253,15 +261,15 @@ round_fits (id ∷ ids) good =
 pub round_value : IsValue (is_in_range 4 (4 * longest_round)) (λ len. items_at (λ known. u32_at) (len / 4) []) ids_text IsSome
 round_value = record { takes = round_takes; again = round_again; len = round_fits }
 
--- ---- the fields
+-- ---- both fields, one behind the other
 
-abbrev spot_part : Spot → List ℕ
+abbrev pub spot_part : Spot → List ℕ
 spot_part spot = cond (is_spot spot) (2 ∷ measured_text spot_text spot) []
 
-abbrev round_part : List ℕ → List ℕ
+abbrev pub round_part : List ℕ → List ℕ
 round_part ids = cond (is_empty ids) [] (3 ∷ measured_text ids_text ids)
 
-abbrev place_of : Spot → List ℕ → PlaceState
+abbrev pub place_of : Spot → List ℕ → PlaceState
 place_of spot ids = record { state = spot.0; song = spot.1.0; frame = spot.1.1; played = ids }
 
 spot_same : (spot : Spot) (ids : List ℕ) → spot_field (place_of spot ids) ≡ spot_part spot
@@ -282,17 +290,18 @@ count_same spot ids = of (stays_by (Put spot.0 spot.1.0 spot.1.1) no_place)
     of true = refl
     of false = refl
 
--- what the fields are spelled to
-spelled : (spot : Spot) (ids : List ℕ)
-    → place_bytes (place_of spot ids)
-    ≡ byte_bytes (cond (is_spot spot) 1 0 + cond (is_empty ids) 0 1) ++ (spot_part spot ++ round_part ids)
-spelled spot ids =
-    let place = place_of spot ids in
-    ap (λ (text : List ℕ). field_count place ∷ text) (append_assoc (spot_field place) (round_head ids) (ids_text ids))
-    ∙ (λ i. count_same spot ids i ∷ (spot_same spot ids i ++ round_same ids i))
+-- how many fields there are, and what they are spelled to
+pub place_spelled : (spot : Spot) (ids : List ℕ)
+    → (field_count (place_of spot ids) ≡ cond (is_spot spot) 1 0 + cond (is_empty ids) 0 1)
+    × (place_bytes (place_of spot ids) ≡ spot_part spot ++ round_part ids)
+place_spelled spot ids =
+    let place = place_of spot ids in (
+      count_same spot ids,
+      append_assoc (spot_field place) (round_head ids) (ids_text ids) ∙ (λ i. spot_same spot ids i ++ round_same ids i),
+    )
 
 -- a field that was read, or wasn't there
-spot_took : (left : ℕ) (bytes : List ℕ) (x : (Spot × ℕ) × List ℕ) → IsBytes bytes → May 2 spot_text IsTold no_spot left bytes x
+pub spot_took : (left : ℕ) (bytes : List ℕ) (x : (Spot × ℕ) × List ℕ) → IsBytes bytes → May 2 spot_text IsTold no_spot left bytes x
     → Takes bytes (spot_part x.0.0) x.1 × (IsSpot x.0.0 × (x.0.1 + cond (is_spot x.0.0) 1 0 ≡ left))
 spot_took left bytes x in_range (inl none) =
     subst (λ (spot : Spot). Takes bytes (spot_part spot) x.1 × (IsSpot spot × (x.0.1 + cond (is_spot spot) 1 0 ≡ left))) (sym none.0) (
@@ -302,7 +311,7 @@ spot_took left bytes x in_range (inl none) =
 spot_took left bytes x in_range (inr took) =
     rw took.1.0.1 (took.0, (took.1.0.0, took.1.1))
 
-round_took : (left : ℕ) (bytes : List ℕ) (x : (List ℕ × ℕ) × List ℕ) → IsBytes bytes → May 3 ids_text IsSome [] left bytes x
+pub round_took : (left : ℕ) (bytes : List ℕ) (x : (List ℕ × ℕ) × List ℕ) → IsBytes bytes → May 3 ids_text IsSome [] left bytes x
     → Takes bytes (round_part x.0.0) x.1 × (IsRound x.0.0 × (x.0.1 + cond (is_empty x.0.0) 0 1 ≡ left))
 round_took left bytes x in_range (inl none) =
     subst (λ (ids : List ℕ). Takes bytes (round_part ids) x.1 × (IsRound ids × (x.0.1 + cond (is_empty ids) 0 1 ≡ left))) (sym none.0) (
@@ -312,33 +321,8 @@ round_took left bytes x in_range (inl none) =
 round_took left bytes x in_range (inr took) =
     rw took.1.0.1 (took.0, (took.1.0.0, took.1.1))
 
-place_takes : (bytes : List ℕ) (x : PlaceState × List ℕ) → IsBytes bytes → place_at bytes ≡ Ok x
-    → Takes bytes (place_bytes x.0) x.1 × IsPlace x.0
-unfolding place_at
-place_takes bytes x in_range e =
-    let count = bind_ok (byte_at bytes) _ x e in
-    let spot = bind_ok (spot_field_at count.0.0 count.0.1) _ x count.2 in
-    let round = bind_ok (round_field_at spot.0.0.1 spot.0.1) _ x spot.2 in
-    let end = passed_ok (eqb round.0.0.1 0) (length round.0.1) (place_of spot.0.0.0 round.0.0.0, round.0.1) x round.2 in
-    let t = byte_is.takes bytes count.0 in_range count.1 in
-    let s = spot_took count.0.0 count.0.1 spot.0 t.0.rest_fits
-    (field_takes 2 (is_in_range 13 13) (λ len. such is_spot spot_at) spot_text IsTold spot_value no_spot count.0.0 count.0.1 spot.0
-    t.0.rest_fits spot.1) in
-    let r = round_took spot.0.0.1 spot.0.1 round.0 s.0.rest_fits
-    (field_takes 3 (is_in_range 4 (4 * longest_round)) (λ len. items_at (λ known. u32_at) (len / 4) []) ids_text IsSome round_value []
-    spot.0.0.1 spot.0.1 round.0 s.0.rest_fits round.1) in
-    let none : round.0.0.1 ≡ 0 = eqb-true _ _ end.0 in
-    let all : count.0.0 ≡ cond (is_spot spot.0.0.0) 1 0 + cond (is_empty round.0.0.0) 0 1 = omega (arith, none, s.1.1, r.1.1) in
-    let both = Takes-then count.0.1 (spot_part spot.0.0.0) spot.0.1 (round_part round.0.0.0) round.0.1 s.0 r.0 in
-    let whole = Takes-then bytes (byte_bytes count.0.0) count.0.1 (spot_part spot.0.0.0 ++ round_part round.0.0.0) round.0.1 t.0 both in
-    subst (λ (y : PlaceState × List ℕ). Takes bytes (place_bytes y.0) y.1 × IsPlace y.0) end.1 (
-      subst (λ (text : List ℕ). Takes bytes text round.0.1) (sym (spelled spot.0.0.0 round.0.0.0))
-          (subst (λ (n : ℕ). Takes bytes (byte_bytes n ++ (spot_part spot.0.0.0 ++ round_part round.0.0.0)) round.0.1) all whole),
-      record { song = s.1.0.1.0; frame = s.1.0.1.1; played = r.1.0 },
-    )
-
 -- read again
-spot_read : (spot : Spot) (count left : ℕ) (rest : List ℕ) → count ≡ cond (is_spot spot) 1 0 + left → IsSpot spot
+pub spot_read : (spot : Spot) (count left : ℕ) (rest : List ℕ) → count ≡ cond (is_spot spot) 1 0 + left → IsSpot spot
     → (is_spot spot ≡ false → is_next 2 left rest ≡ false) → (is_spot spot ≡ false → spot ≡ no_spot)
     → spot_field_at count (spot_part spot ++ rest) ≡ Ok ((spot, left), rest)
 spot_read spot count left rest counts good apart none = of (is_spot spot) refl counts
@@ -355,7 +339,7 @@ spot_read spot count left rest counts good apart none = of (is_spot spot) refl c
         (subst (λ (s : Spot). spot_field_at left rest ≡ Ok ((s, left), rest)) (sym (none first))
         (field_none 2 (is_in_range 13 13) (λ len. such is_spot spot_at) no_spot left rest (apart first)))
 
-round_read : (ids : List ℕ) (rest : List ℕ) → IsRound ids
+pub round_read : (ids : List ℕ) (rest : List ℕ) → IsRound ids
     → round_field_at (cond (is_empty ids) 0 1) (round_part ids ++ rest) ≡ Ok ((ids, 0), rest)
 round_read [] rest good =
     field_none 3 (is_in_range 4 (4 * longest_round)) (λ len. items_at (λ known. u32_at) (len / 4) []) [] 0 rest refl
@@ -364,7 +348,7 @@ round_read (id ∷ ids) rest good =
     (id ∷ ids) 0 rest (good, refl)
 
 -- behind a spot that isn't there no field 2 stands
-no_second : (ids rest : List ℕ) → is_next 2 (cond (is_empty ids) 0 1) (round_part ids ++ rest) ≡ false
+pub no_second : (ids rest : List ℕ) → is_next 2 (cond (is_empty ids) 0 1) (round_part ids ++ rest) ≡ false
 no_second [] rest = refl
 no_second (id ∷ ids) rest = refl
 
@@ -373,7 +357,7 @@ stop_is Stop is = refl
 stop_is Play is = absurd (false≢true is)
 stop_is Pause is = absurd (false≢true is)
 
-start_is : (spot : Spot) → is_spot spot ≡ false → spot ≡ no_spot
+pub start_is : (spot : Spot) → is_spot spot ≡ false → spot ≡ no_spot
 start_is spot first =
     let start = not-false (stays_by (Put spot.0 spot.1.0 spot.1.1) no_place) first in
     let parts = both_true (same_state spot.0 Stop) (eqb spot.1.0 0 && eqb spot.1.1 0) start in
@@ -382,31 +366,6 @@ start_is spot first =
     let song : spot.1.0 ≡ 0 = eqb-true spot.1.0 0 numbers.0 in
     let frame : spot.1.1 ≡ 0 = eqb-true spot.1.1 0 numbers.1 in
     λ i. (state i, (song i, frame i))
-
--- both fields are read behind their number
-place_read : (count left : ℕ) (bytes behind rest : List ℕ) (spot : Spot) (ids : List ℕ)
-    → spot_field_at count bytes ≡ Ok ((spot, left), behind) → round_field_at left behind ≡ Ok ((ids, 0), rest)
-    → place_at (count ∷ bytes) ≡ Ok (place_of spot ids, rest)
-unfolding place_at
-place_read count left bytes behind rest spot ids first second = rw (first, second) refl
-
-place_again : (place : PlaceState) (rest : List ℕ) → IsPlace place → place_at (place_bytes place ++ rest) ≡ Ok (place, rest)
-place_again place rest good =
-    let spot : Spot = (place.state, (place.song, place.frame)) in
-    let ids : List ℕ = place.played in
-    let left : ℕ = cond (is_empty ids) 0 1 in
-    let count : ℕ = cond (is_spot spot) 1 0 + left in
-    let regrouped : place_bytes place ++ rest ≡ count ∷ (spot_part spot ++ (round_part ids ++ rest)) =
-    ap (λ (l : List ℕ). l ++ rest) (spelled spot ids)
-    ∙ ap (λ (l : List ℕ). count ∷ l) (append_assoc (spot_part spot) (round_part ids) rest) in
-    let good_spot : IsSpot spot = (tt, (good.song, good.frame)) in
-    ap (λ (l : List ℕ). place_at l) regrouped
-    ∙ place_read count left (spot_part spot ++ (round_part ids ++ rest)) (round_part ids ++ rest) rest spot ids
-    (spot_read spot count left (round_part ids ++ rest) refl good_spot (λ first. no_second ids rest) (start_is spot))
-    (round_read ids rest good.played)
-
-pub place_is : IsField (λ bytes. place_at bytes) place_bytes IsPlace
-place_is = record { takes = place_takes; again = place_again }
 
 -- ---- how many bytes the fields have
 
@@ -438,14 +397,14 @@ round_short [] = omega arith
 round_short (id ∷ ids) = omega arith
 
 -- the parts of what stands in front of the ids
-pub head_len : (place : PlaceState) → length (place_head place) ≡ 1 + (length (spot_field place) + length (round_head place.played))
+pub head_len : (place : PlaceState) → length (place_head place) ≡ length (spot_field place) + length (round_head place.played)
 head_len place = omega (arith, length-append (spot_field place) (round_head place.played))
 
-pub head_short : (place : PlaceState) → length (place_head place) ≤ 24
+pub head_short : (place : PlaceState) → length (place_head place) ≤ 23
 head_short place = omega (arith, head_len place, spot_short place, round_short place.played)
 
 pub place_len : (place : PlaceState) → length (place_bytes place) ≡ length (place_head place) + 4 * length place.played
 place_len place = omega (arith, length-append (place_head place) (ids_text place.played), ids_len place.played)
 
-pub place_short : (place : PlaceState) → IsPlace place → length (place_bytes place) ≤ 24 + 4 * longest_round
+pub place_short : (place : PlaceState) → IsPlace place → length (place_bytes place) ≤ 23 + 4 * longest_round
 place_short place good = omega (arith, place_len place, head_short place, good.played.few)

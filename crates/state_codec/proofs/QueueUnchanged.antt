@@ -1,6 +1,6 @@
 -- Which ops of the queue leave a state as it is, and what the version tells.
 use Rattle.std.proofs.Common.{◌≡◌, ℕ, ◌+◌, ◌↔◌, Bool, true, false, cond, ◌==◌, ◌&&◌, List, [], ◌∷◌, ◌++◌, length, map, take, drop}
-use Rattle.std.proofs.Common.{Option, None, refl, sym, ap, ◌∙◌, arith}
+use Rattle.std.proofs.Common.{None, refl, sym, ap, ◌∙◌, arith}
 use Rattle.std.proofs.lemmas.Bool.{eqb-true, eq-eqb}
 use Rattle.std.proofs.lemmas.List.{length-append, length-drop, length-take-le, take-append-drop}
 use Rattle.play_queue.specs.declared.entry.Entry.{Entry}
@@ -9,10 +9,10 @@ use Rattle.play_queue.specs.Limits.{MAX_VERSION}
 use Rattle.play_queue.specs.Queue.{QueueState, is_same, is_unchanged, with_stamp, stamped, ruled}
 use Rattle.play_queue.proofs.Ruling.{is_same-itself, ruled-itself}
 use Rattle.play_queue.proofs.Versions.{tells_changes}
-use Rattle.player_core.specs.Place.{PlaceState, place_left}
+use Rattle.player_core.specs.Place.{place_left}
 use Rattle.player_core.specs.Words.{next_order}
 use Rattle.std.specs.Option.{option_map}
-use Rattle.state_codec.specs.Laws.{but_place}
+use Rattle.state_codec.specs.Laws.{but_kept}
 use Rattle.state_codec.specs.OpsQueue.{queue_refusal, with_added, after_queue, leaves_queue, range}
 use Rattle.state_codec.specs.OpsSongs.{have_rows, uris_at}
 use Rattle.state_codec.specs.SavedState.{SavedState}
@@ -84,9 +84,9 @@ next_other order same = of (order == 18446744073709551615) refl same
     of true last same = omega (arith, eqb-true order 18446744073709551615 last)
     of false other same = omega arith
 
--- where it changes nothing but perhaps the player's place
-pub queue_apart : (op : QueueOp) (place : Option PlaceState) (s : SavedState) → queue_refusal op s ≡ None
-    → after_queue op s ≡ but_place place s → leaves_queue op s ≡ true
+-- where it changes nothing but perhaps the player's place and the playlists' times
+pub queue_apart : (op : QueueOp) (other : SavedState) (s : SavedState) → queue_refusal op s ≡ None
+    → after_queue op s ≡ but_kept other s → leaves_queue op s ≡ true
 queue_apart (Add at rows) place s none same =
     let named : have_rows s.songs rows ≡ true = (named_none (have_rows s.songs rows) _ none).0 in
     let next : s.queue.next_id + length (uris_at s.songs rows) ≡ s.queue.next_id = ap (λ (t : SavedState). t.queue.next_id) same in
@@ -98,7 +98,7 @@ queue_apart (Shuffle start end) place s none same = absurd (next_other s.order (
 queue_apart (Prio priority ranges) place s none same = version_tells s.queue _ [] (ap (λ (t : SavedState). t.queue.version) same)
 
 pub queue_only : (op : QueueOp) (s : SavedState) → queue_refusal op s ≡ None → after_queue op s ≡ s → leaves_queue op s ≡ true
-queue_only op s none same = queue_apart op s.place s none same
+queue_only op s none same = queue_apart op s s none same
 
 length-new_entries : (first : ℕ) (uris : Uris) → length (new_entries first uris) ≡ length uris
 length-new_entries first [] = refl

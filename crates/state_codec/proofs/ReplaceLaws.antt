@@ -1,7 +1,9 @@
 -- A playlist that gets the songs of the queue in place of its own.
 use Rattle.std.proofs.Common.{◌≡◌, ◌≢◌, ◌↔◌, ℕ, suc, ◌+◌, ◌<◌, ◌≤◌, Bool, true, false, List, [], ◌∷◌, ◌++◌, length, take, get_or}
-use Rattle.std.proofs.Common.{Option, Some, None, Result, Ok, Err, is_some, nat_le, ◌⊎◌, inl, inr, refl, sym, ap, ◌∙◌, subst, arith}
-use Rattle.std.specs.Str.{bytes_eq}
+use Rattle.std.proofs.Common.{Option, Some, None, Result, Ok, Err, IsTrue, cond, is_some, nat_le, ◌⊎◌, inl, inr, refl, sym, ap, ◌∙◌, subst, arith}
+use Rattle.std.specs.List.{AllByRecursion}
+use Rattle.std.specs.Option.{option_map}
+use Rattle.std.specs.Str.{bytes_eq, is_utf8}
 use Rattle.std.proofs.lemmas.Bool.{cases_eq}
 use Rattle.std.proofs.lemmas.Bool.Decides.{nat_tests}
 use Rattle.std.proofs.lemmas.List.{length-map, get_or-map, get_or_default, take_more, map_push}
@@ -12,20 +14,26 @@ use Rattle.stored_lists.specs.Lists.{Stored, IsCounted, songs_of, songs_or_none,
 use Rattle.stored_lists.specs.Lists.{replace_refusal as list_replace_refusal}
 use Rattle.stored_lists.specs.Name.{is_good_name}
 use Rattle.stored_lists.specs.Songs.{Uris}
+use Rattle.stored_lists.specs.Times.{Times, with_time, without_time}
+use Rattle.stored_lists.specs.declared.refusal.ListsError.{ListsError}
 use Rattle.stored_lists.proofs.Absent.{with_songs_same}
 use Rattle.stored_lists.proofs.Counted.{total_without}
 use Rattle.stored_lists.proofs.Replaced.{replaced_is, without_free}
+use Rattle.stored_lists.proofs.Timed.{anew}
 use Rattle.state_codec.specs.Applied.{all_applied, after_all, unless_refused}
 use Rattle.state_codec.specs.Editing.{AnswersApply, IsEdit}
 use Rattle.state_codec.specs.OpsLists.{same_uris, uris_of}
 use Rattle.state_codec.specs.Replacing.{replace_ops, replace_refusal, replaces_nothing}
-use Rattle.state_codec.specs.SavedState.{SavedState, IsSavedState, AreSavedLists}
+use Rattle.state_codec.specs.SavedState.{SavedState, IsSavedList, IsSavedState, AreSavedLists}
+use Rattle.state_codec.specs.declared.op.list_op.ListOp.TheVariants.{Save}
 use Rattle.state_codec.specs.declared.refusal.ApplyError.{ApplyError}
 use Rattle.state_codec.specs.declared.refusal.OpRefusal.{OpRefusal}
+use Rattle.state_codec.specs.declared.refusal.OpRefusal.TheVariants.{Lists}
 use Rattle.state_codec.proofs.KeptLists.{kept_with_songs}
-use Rattle.state_codec.proofs.KeptOps.{map_none, cond_none, not_less, not_none, found_songs, with_lists}
+use Rattle.state_codec.proofs.KeptOps.{map_none, cond_none, not_less, not_none, found_songs, with_lists, with_times}
 use Rattle.state_codec.proofs.ListsUnchanged.{uris_same, uris_itself, length-without_list, songs_stay}
 use Rattle.state_codec.proofs.Named.{entries_are_uris}
+use Rattle.state_codec.proofs.TimeLaws.{kept_list_times}
 
 -- what a replacement that isn't refused finds
 pub record Replaces (all : Stored) (name : List ℕ) (n : ℕ) : Type 0 where
@@ -47,13 +55,37 @@ replaces all name n none =
 of_state : (name : List ℕ) (s : SavedState) → replace_refusal name s ≡ None → Replaces s.lists name (length s.queue.entries)
 of_state name s none = replaces s.lists name (length s.queue.entries) (map_none _ _ none)
 
+-- the name of a playlist that is there is UTF-8
+text_found : (all : Stored) (name : List ℕ) (old : Uris) → AllByRecursion IsSavedList all → songs_of all name ≡ Some old
+    → IsTrue (is_utf8 name)
+text_found [] name old texts found = absurd (cc)
+text_found (list ∷ all) name old texts found =
+    of (bytes_eq name list.0) refl found (λ (there : songs_of all name ≡ Some old). text_found all name old texts.1 there)
+  where
+    of : (b : Bool) → bytes_eq name list.0 ≡ b → cond b (Some list.1) (songs_of all name) ≡ Some old
+        → (songs_of all name ≡ Some old → IsTrue (is_utf8 name)) → IsTrue (is_utf8 name)
+    of true same found rest = subst (λ (text : List ℕ). IsTrue (is_utf8 text)) (sym ((bytes_eq-Decides name list.0).0 same)) texts.0
+    of false other found rest = rest found
+
+-- it goes and is changed, as it is where it is changed alone
+pub put_anew : (name : List ℕ) (times : Option Times)
+    → option_map (with_time name 0) (option_map (without_time name) times) ≡ option_map (with_time name 0) times
+put_anew name None = refl
+put_anew name (Some times) = ap Some (anew name 0 times)
+
+-- a replacement that isn't refused is made
+pub replaced_edit : (o : Option ListsError) (edited before after : SavedState) → o ≡ None → after ≡ edited
+    → IsEdit {T = Unit {0}} (option_map Lists o) edited before after (Ok tt)
+replaced_edit o edited before after none same = rw none (record { ok = same; err = tt; answer = tt })
+
 -- the playlist stands where it stood
 pub stands_replaced : (name : List ℕ) (s : SavedState) → IsSavedState s → replace_refusal name s ≡ None
-    → after_all (replace_ops name) s ≡ record s { lists = with_songs s.lists name (uris_of s.queue.entries) }
+    → after_all (replace_ops name) s
+    ≡ record s { lists = with_songs s.lists name (uris_of s.queue.entries); changed = option_map (with_time name 0) s.changed }
 stands_replaced name s saved none =
     let there = of_state name s none in
-    ap (λ (lists : Stored). record s { lists = lists })
-    (sym (replaced_is s.lists name (uris_of s.queue.entries) saved.lists.rising (ap is_some there.found)))
+    let stands = sym (replaced_is s.lists name (uris_of s.queue.entries) saved.lists.rising (ap is_some there.found)) in
+    λ i. record s { lists = stands i; changed = put_anew name s.changed i }
 
 -- a saved state stays one
 pub kept_replaced : (name : List ℕ) (s : SavedState) → IsSavedState s → replace_refusal name s ≡ None
@@ -69,7 +101,10 @@ kept_replaced name s saved none =
     kept_with_songs s.lists name old songs (total (without_list s.lists name) + length songs) saved.lists
     (entries_are_uris s.songs s.queue.entries saved.songs.rows saved.queue.entries) there.found (omega (arith, others))
     (omega (arith, long, there.few)) in
-    subst IsSavedState (sym (stands_replaced name s saved none)) (with_lists s (with_songs s.lists name songs) saved kept)
+    let timed = kept_list_times false (Save name) s.profile s.changed (record { good = there.good; text = text_found s.lists name old saved.lists.texts there.found }) saved.changed in
+    subst IsSavedState (sym (stands_replaced name s saved none))
+    (with_times (record s { lists = with_songs s.lists name songs }) (option_map (with_time name 0) s.changed)
+    (with_lists s (with_songs s.lists name songs) saved kept) timed)
 
 -- and so does the state after the edit
 pub kept_replacement : (name : List ℕ) (s t : SavedState) (r : Result (Unit {0}) ApplyError) → IsSavedState s
@@ -109,7 +144,7 @@ applied_replaced name s saved = by_name (is_good_name name) refl (is_some (songs
         by_room false room = rw (is, found, without_free s.lists name saved.lists.rising, short_without s.lists name saved.lists found, room) refl
 
 pub nothing_replaced : (name : List ℕ) (s : SavedState) → IsSavedState s → replace_refusal name s ≡ None
-    → (replaces_nothing name s ≡ true) ↔ (after_all (replace_ops name) s ≡ s)
+    → (replaces_nothing name s ≡ true) ↔ ((after_all (replace_ops name) s).lists ≡ s.lists)
 nothing_replaced name s saved none = (stays, only)
   where
     there : Replaces s.lists name (length s.queue.entries)
@@ -118,17 +153,16 @@ nothing_replaced name s saved none = (stays, only)
     old : Uris
     old = songs_or_none s.lists name
 
-    stays : replaces_nothing name s ≡ true → after_all (replace_ops name) s ≡ s
+    stays : replaces_nothing name s ≡ true → (after_all (replace_ops name) s).lists ≡ s.lists
     stays same =
         let songs : old ≡ uris_of s.queue.entries = uris_same old (uris_of s.queue.entries) same in
-        stands_replaced name s saved none
-        ∙ ap (λ (lists : Stored). record s { lists = lists })
-        (ap (λ (l : Uris). with_songs s.lists name l) (sym songs) ∙ with_songs_same s.lists name old there.found)
+        ap (λ (t : SavedState). t.lists) (stands_replaced name s saved none)
+        ∙ ap (λ (l : Uris). with_songs s.lists name l) (sym songs) ∙ with_songs_same s.lists name old there.found
 
-    only : after_all (replace_ops name) s ≡ s → replaces_nothing name s ≡ true
+    only : (after_all (replace_ops name) s).lists ≡ s.lists → replaces_nothing name s ≡ true
     only same =
         let lists : with_songs s.lists name (uris_of s.queue.entries) ≡ s.lists =
-        ap (λ (t : SavedState). t.lists) (sym (stands_replaced name s saved none) ∙ same) in
+        ap (λ (t : SavedState). t.lists) (sym (stands_replaced name s saved none)) ∙ same in
         let songs : uris_of s.queue.entries ≡ old =
         songs_stay s.lists name old (uris_of s.queue.entries) there.found lists in
         ap (λ (l : Uris). same_uris old l) songs ∙ uris_itself old

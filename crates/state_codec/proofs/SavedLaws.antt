@@ -18,13 +18,14 @@ use Rattle.state_codec.specs.Layout.{layout_1, layout_2, layout_3, layout_of, wr
 use Rattle.state_codec.specs.Reading.{alone, in_bytes, front_state, saved_reading, saved_reading_in}
 use Rattle.state_codec.specs.ReadingSaved.{options_at, songs_at, entries_at, lists_at, stickers_at, header_at, parts_at, saved_at}
 use Rattle.state_codec.specs.ReadingSaved.{before_fields}
-use Rattle.state_codec.specs.SavedState.{SavedState, IsSavedState, IsSavedPlace, AreKeptSongs, IsBytes, key_len}
-use Rattle.state_codec.specs.ReadingPlace.{place_at}
+use Rattle.state_codec.specs.SavedState.{SavedState, IsSavedState, AreSavedTimes, IsSavedPlace, AreKeptSongs, IsBytes, key_len}
+use Rattle.state_codec.specs.ReadingTimes.{fields_at}
 use Rattle.state_codec.specs.Sealed.{sealed, unsealed}
 use Rattle.state_codec.specs.Spelling.{options_bytes, entry_bytes, playlist_bytes, sticker_bytes, head_bytes, parts_bytes, saved_bytes}
 use Rattle.state_codec.specs.Spelling.{with_fields}
 use Rattle.state_codec.specs.SpellingFields.{byte_bytes, u32_bytes, u64_bytes, flag_bytes, single_bytes, list_bytes}
-use Rattle.state_codec.specs.SpellingPlace.{place_bytes}
+use Rattle.state_codec.specs.SpellingTimes.{fields_bytes}
+use Rattle.stored_lists.specs.Times.{Times}
 use Rattle.state_codec.specs.SpellingRows.{row_bytes}
 use Rattle.state_codec.specs.Steps.{◌>>=◌}
 use Rattle.state_codec.proofs.FieldLaws.{bind_ok, ok_is, passed_ok, Takes, Takes-then, u64_is, within_is, flag_is, single_is, volume_is}
@@ -34,7 +35,7 @@ use Rattle.state_codec.proofs.SongsLaws.{songs_is}
 use Rattle.state_codec.proofs.EntriesLaws.{entries_is}
 use Rattle.state_codec.proofs.PlaylistsLaws.{lists_is}
 use Rattle.state_codec.proofs.StickersLaws.{stickers_is}
-use Rattle.state_codec.proofs.PlaceFields.{place_is}
+use Rattle.state_codec.proofs.TimeFields.{fields_are}
 
 -- ---- options
 
@@ -172,18 +173,19 @@ header_of s = record {
       s.options;
 }
 
-abbrev put_place : Option PlaceState → SavedState → SavedState
-put_place place s = record s { place = place }
+abbrev put_fields : Option Times → Option PlaceState → SavedState → SavedState
+put_fields times place s = record s { place = place; changed = times }
 
--- a state in all but its place, which isn't known yet
-record IsButPlace (layout : Layout) (s : SavedState) : Type 0 where
-  none : s.place ≡ None
-  with_place : (place : Option PlaceState) → IsSavedPlace layout.profile place
-      → IsSavedState (put_place place s) × IsStateIn layout (put_place place s)
+-- a state in all but its times and its place, which aren't known yet
+record IsButFields (layout : Layout) (s : SavedState) : Type 0 where
+  no_times : s.changed ≡ None
+  no_place : s.place ≡ None
+  with_both : (times : Option Times) (place : Option PlaceState) → AreSavedTimes layout.profile times → IsSavedPlace layout.profile place
+      → IsSavedState (put_fields times place s) × IsStateIn layout (put_fields times place s)
 
 parts_take : (layout : Layout) → IsLayout layout → (h : Header) (bytes : List ℕ) (x : SavedState × List ℕ) → IsHeader layout h
     → IsBytes bytes → parts_at layout h bytes ≡ Ok x
-    → Takes bytes (parts_bytes x.0) x.1 × (IsButPlace layout x.0 × (header_of x.0 ≡ h))
+    → Takes bytes (parts_bytes x.0) x.1 × (IsButFields layout x.0 × (header_of x.0 ≡ h))
 unfolding parts_at
 parts_take layout form h bytes x header fits e =
     let songs = bind_ok (songs_at layout.profile bytes) _ x e in
@@ -208,6 +210,7 @@ parts_take layout form h bytes x header fits e =
       lists = lists.0.0;
       stickers = stickers.0.0;
       place = None;
+      changed = None;
     } in
     let rows_text = list_bytes (row_bytes s.profile) s.songs in
     let entries_text = list_bytes (entry_bytes s.songs) s.queue.entries in
@@ -217,7 +220,8 @@ parts_take layout form h bytes x header fits e =
     let j1 = Takes-then songs.0.1 entries_text entries.0.1 (lists_text ++ stickers_text) end t1.0 j2 in
     let j0 : Takes bytes (parts_bytes s) end =
     Takes-then bytes rows_text songs.0.1 (entries_text ++ (lists_text ++ stickers_text)) end t0.0 j1 in
-    let good : (place : Option PlaceState) → IsSavedPlace layout.profile place → IsSavedState (put_place place s) = λ place kept. record {
+    let good : (times : Option Times) (place : Option PlaceState) → AreSavedTimes layout.profile times → IsSavedPlace layout.profile place
+    → IsSavedState (put_fields times place s) = λ times place are kept. record {
       key_len = header.key_len;
       key_bytes = header.key_bytes;
       order = header.order;
@@ -228,19 +232,24 @@ parts_take layout form h bytes x header fits e =
       lists = t2.1.0;
       stickers = t3.1;
       place = kept;
+      changed = are;
     } in
-    let within : (place : Option PlaceState) → IsStateIn layout (put_place place s) = λ place. record {
+    let within : (times : Option Times) (place : Option PlaceState) → IsStateIn layout (put_fields times place s) = λ times place. record {
       profile = refl;
       consume = header.consume;
       queue = t1.1.1;
       lists = t2.1.1;
     } in
-    let but : IsButPlace layout s = record { none = refl; with_place = λ place kept. (good place kept, within place) } in
-    subst (λ (y : SavedState × List ℕ). Takes bytes (parts_bytes y.0) y.1 × (IsButPlace layout y.0 × (header_of y.0 ≡ h)))
+    let but : IsButFields layout s = record {
+      no_times = refl;
+      no_place = refl;
+      with_both = λ times place are kept. (good times place are kept, within times place);
+    } in
+    subst (λ (y : SavedState × List ℕ). Takes bytes (parts_bytes y.0) y.1 × (IsButFields layout y.0 × (header_of y.0 ≡ h)))
     {x = (s, end)} (ok_is (s, end) x stickers.2) (j0, (but, refl))
 
 parts_again : (layout : Layout) → IsLayout layout → (s : SavedState) (rest : List ℕ) → IsSavedState s → IsStateIn layout s
-    → parts_at layout (header_of s) (parts_bytes s ++ rest) ≡ Ok (put_place None s, rest)
+    → parts_at layout (header_of s) (parts_bytes s ++ rest) ≡ Ok (put_fields None None s, rest)
 unfolding parts_at
 parts_again layout form s rest fits within =
     let queue = fits.queue.queue in
@@ -268,73 +277,79 @@ parts_again layout form s rest fits within =
       (stickers_is s.songs fits.songs).again s.stickers rest fits.stickers,
     )
     refl
-    ∙ ap (λ (p : Profile). Ok (record s { profile = p; place = None }, rest)) (sym within.profile)
+    ∙ ap (λ (p : Profile). Ok (record s { profile = p; place = None; changed = None }, rest)) (sym within.profile)
 
 -- ---- the fields behind the parts
 
-abbrev pub fields_text : Profile → Option PlaceState → List ℕ
-fields_text Named place = []
-fields_text Wide place = place_bytes (unwrap_or place no_place)
+abbrev pub fields_text : Profile → Option Times → Option PlaceState → List ℕ
+fields_text Named times place = []
+fields_text Wide times place = fields_bytes (unwrap_or times []) (unwrap_or place no_place)
 
-pub with_fields_is : (profile : Profile) (place : Option PlaceState) (bytes : List ℕ)
-    → with_fields profile place bytes ≡ bytes ++ fields_text profile place
-with_fields_is Named place bytes = sym (append-nil bytes)
-with_fields_is Wide place bytes = refl
+pub with_fields_is : (profile : Profile) (times : Option Times) (place : Option PlaceState) (bytes : List ℕ)
+    → with_fields profile times place bytes ≡ bytes ++ fields_text profile times place
+with_fields_is Named times place bytes = sym (append-nil bytes)
+with_fields_is Wide times place bytes = refl
 
--- the parts in front of the fields, and the place that those tell
+-- the parts in front of the fields, and the times and the place that those tell
 record BeforeFields (profile : Profile) (field : Field SavedState) (x : SavedState × List ℕ) : Type 0 where
   parts : SavedState × List ℕ
+  times : Option Times
   place : Option PlaceState
   read : field ≡ Ok parts
-  same : parts.0.place ≡ None → put_place place parts.0 ≡ x.0
-  good : IsBytes parts.1 → IsSavedPlace profile place
-  taken : IsBytes parts.1 → Takes parts.1 (fields_text profile place) x.1
+  same : parts.0.changed ≡ None → parts.0.place ≡ None → put_fields times place parts.0 ≡ x.0
+  good : IsBytes parts.1 → AreSavedTimes profile times × IsSavedPlace profile place
+  taken : IsBytes parts.1 → Takes parts.1 (fields_text profile times place) x.1
 
 fields_take : (profile : Profile) (field : Field SavedState) (x : SavedState × List ℕ) → before_fields profile field ≡ Ok x
     → BeforeFields profile field x
 fields_take Named field x e = record {
   parts = x;
+  times = None;
   place = None;
   read = e;
-  same = λ none. ap (λ (place : Option PlaceState). put_place place x.0) (sym none);
-  good = λ fits. tt;
+  same = λ no_times no_place. λ i. put_fields (sym no_times i) (sym no_place i) x.0;
+  good = λ fits. (tt, tt);
   taken = λ fits. record { parts = refl; rest_fits = fits };
 }
 fields_take Wide field x e =
     let parts = bind_ok field _ x e in
-    let place = bind_ok (place_at parts.0.1) _ x parts.2 in
-    let read = ok_is (put_place (Some place.0.0) parts.0.0, place.0.1) x place.2 in
+    let fields = bind_ok (fields_at parts.0.1) _ x parts.2 in
+    let read = ok_is (put_fields (Some fields.0.0.0) (Some fields.0.0.1) parts.0.0, fields.0.1) x fields.2 in
     record {
       parts = parts.0;
-      place = Some place.0.0;
+      times = Some fields.0.0.0;
+      place = Some fields.0.0.1;
       read = parts.1;
-      same = λ none. ap (λ (y : SavedState × List ℕ). y.0) read;
-      good = λ fits. (place_is.takes parts.0.1 place.0 fits place.1).1;
-      taken = λ fits. subst (λ (rest : List ℕ). Takes parts.0.1 (place_bytes place.0.0) rest)
-          (ap (λ (y : SavedState × List ℕ). y.1) read) (place_is.takes parts.0.1 place.0 fits place.1).0;
+      same = λ no_times no_place. ap (λ (y : SavedState × List ℕ). y.0) read;
+      good = λ fits. (fields_are.takes parts.0.1 fields.0 fits fields.1).1;
+      taken = λ fits. subst (λ (rest : List ℕ). Takes parts.0.1 (fields_bytes fields.0.0.0 fields.0.0.1) rest)
+          (ap (λ (y : SavedState × List ℕ). y.1) read) (fields_are.takes parts.0.1 fields.0 fits fields.1).0;
     }
 
-fields_again : (profile : Profile) (s : SavedState) (rest : List ℕ) → IsSavedPlace profile s.place
-    → before_fields profile (Ok (put_place None s, fields_text profile s.place ++ rest)) ≡ Ok (s, rest)
-fields_again Named s rest good = of s.place refl good
+fields_again : (profile : Profile) (s : SavedState) (rest : List ℕ) → AreSavedTimes profile s.changed → IsSavedPlace profile s.place
+    → before_fields profile (Ok (put_fields None None s, fields_text profile s.changed s.place ++ rest)) ≡ Ok (s, rest)
+fields_again Named s rest are good = of s.changed s.place refl refl are good
   where
-    of : (place : Option PlaceState) → s.place ≡ place → IsSavedPlace Named place
-        → before_fields Named (Ok (put_place None s, rest)) ≡ Ok (s, rest)
-    of None is good = ap (λ (place : Option PlaceState). Ok (put_place place s, rest)) (sym is)
-    of (Some place) is good = absurd good
-fields_again Wide s rest good = of s.place refl good
+    of : (times : Option Times) (place : Option PlaceState) → s.changed ≡ times → s.place ≡ place → AreSavedTimes Named times
+        → IsSavedPlace Named place → before_fields Named (Ok (put_fields None None s, rest)) ≡ Ok (s, rest)
+    of None None no_times no_place are good = λ i. Ok (put_fields (sym no_times i) (sym no_place i) s, rest)
+    of None (Some place) no_times is are good = absurd good
+    of (Some times) place is no_place are good = absurd are
+fields_again Wide s rest are good = of s.changed s.place refl refl are good
   where
-    of : (place : Option PlaceState) → s.place ≡ place → IsSavedPlace Wide place
-        → before_fields Wide (Ok (put_place None s, fields_text Wide place ++ rest)) ≡ Ok (s, rest)
-    of None is good = absurd good
-    of (Some place) is good =
-        rw (place_is.again place rest good) (ap (λ (place : Option PlaceState). Ok (put_place place s, rest)) (sym is))
+    of : (times : Option Times) (place : Option PlaceState) → s.changed ≡ times → s.place ≡ place → AreSavedTimes Wide times
+        → IsSavedPlace Wide place
+        → before_fields Wide (Ok (put_fields None None s, fields_text Wide times place ++ rest)) ≡ Ok (s, rest)
+    of None place no_times is are good = absurd are
+    of (Some times) None is no_place are good = absurd good
+    of (Some times) (Some place) dated is are good =
+        rw (fields_are.again (times, place) rest (are, good)) (λ i. Ok (put_fields (sym dated i) (sym is i) s, rest))
 
 -- ---- the state
 
 -- all of a snapshot but its checksum
 abbrev pub content_bytes : SavedState → List ℕ
-content_bytes s = with_fields s.profile s.place (head_bytes s ++ parts_bytes s)
+content_bytes s = with_fields s.profile s.changed s.place (head_bytes s ++ parts_bytes s)
 
 pub saved_takes : (layout : Layout) → IsLayout layout → (bytes : List ℕ) (x : SavedState × List ℕ) → IsBytes bytes
     → saved_at layout bytes ≡ Ok x
@@ -346,15 +361,16 @@ saved_takes layout form bytes x fits e =
     let b = fields_take layout.profile (parts_at layout h.0.0 h.0.1) x h.2 in
     let u = parts_take layout form h.0.0 h.0.1 b.parts t.1 t.0.rest_fits b.read in
     let s = b.parts.0 in
-    let good = u.1.0.with_place b.place (b.good u.0.rest_fits) in
+    let both_good = b.good u.0.rest_fits in
+    let good = u.1.0.with_both b.times b.place both_good.0 both_good.1 in
     let front : Takes bytes (head_bytes s) h.0.1 = subst (λ (header : Header). Takes bytes (header_text header) h.0.1) (sym u.1.1) t.0 in
     let both = Takes-then bytes (head_bytes s) h.0.1 (parts_bytes s) b.parts.1 front u.0 in
     let text = head_bytes s ++ parts_bytes s in
-    let all : Takes bytes (text ++ fields_text layout.profile b.place) x.1 =
-    Takes-then bytes text b.parts.1 (fields_text layout.profile b.place) x.1 both (b.taken u.0.rest_fits) in
-    let whole : text ++ fields_text layout.profile b.place ≡ content_bytes (put_place b.place s) =
-    ap (λ (p : Profile). text ++ fields_text p b.place) (sym good.1.profile) ∙ sym (with_fields_is s.profile b.place text) in
-    subst (λ (y : SavedState). Takes bytes (content_bytes y) x.1 × (IsSavedState y × IsStateIn layout y)) (b.same u.1.0.none)
+    let all : Takes bytes (text ++ fields_text layout.profile b.times b.place) x.1 =
+    Takes-then bytes text b.parts.1 (fields_text layout.profile b.times b.place) x.1 both (b.taken u.0.rest_fits) in
+    let whole : text ++ fields_text layout.profile b.times b.place ≡ content_bytes (put_fields b.times b.place s) =
+    ap (λ (p : Profile). text ++ fields_text p b.times b.place) (sym good.1.profile) ∙ sym (with_fields_is s.profile b.times b.place text) in
+    subst (λ (y : SavedState). Takes bytes (content_bytes y) x.1 × (IsSavedState y × IsStateIn layout y)) (b.same u.1.0.no_times u.1.0.no_place)
     (subst (λ (text : List ℕ). Takes bytes text x.1) whole all, good)
 
 pub saved_again : (layout : Layout) → IsLayout layout → (s : SavedState) (rest : List ℕ) → IsSavedState s → IsStateIn layout s
@@ -373,16 +389,17 @@ saved_again layout form s rest fits within =
       volume = fits.volume;
       consume = within.consume;
     } in
-    let end = fields_text layout.profile s.place ++ rest in
+    let end = fields_text layout.profile s.changed s.place ++ rest in
     let regrouped : content_bytes s ++ rest ≡ head_bytes s ++ (parts_bytes s ++ end) =
-    ap (λ (text : List ℕ). text ++ rest) (with_fields_is s.profile s.place (head_bytes s ++ parts_bytes s))
-    ∙ ap (λ (p : Profile). ((head_bytes s ++ parts_bytes s) ++ fields_text p s.place) ++ rest) within.profile
-    ∙ append_assoc (head_bytes s ++ parts_bytes s) (fields_text layout.profile s.place) rest
+    ap (λ (text : List ℕ). text ++ rest) (with_fields_is s.profile s.changed s.place (head_bytes s ++ parts_bytes s))
+    ∙ ap (λ (p : Profile). ((head_bytes s ++ parts_bytes s) ++ fields_text p s.changed s.place) ++ rest) within.profile
+    ∙ append_assoc (head_bytes s ++ parts_bytes s) (fields_text layout.profile s.changed s.place) rest
     ∙ append_assoc (head_bytes s) (parts_bytes s) end in
     let kept : IsSavedPlace layout.profile s.place = subst (λ (p : Profile). IsSavedPlace p s.place) within.profile fits.place in
+    let are : AreSavedTimes layout.profile s.changed = subst (λ (p : Profile). AreSavedTimes p s.changed) within.profile fits.changed in
     ap (saved_at layout) regrouped
     ∙ rw (header_again layout (header_of s) (parts_bytes s ++ end) header)
-    (ap (before_fields layout.profile) (parts_again layout form s end fits within) ∙ fields_again layout.profile s rest kept)
+    (ap (before_fields layout.profile) (parts_again layout form s end fits within) ∙ fields_again layout.profile s rest are kept)
 
 -- ---- the whole snapshot
 

@@ -3,13 +3,14 @@ use Rattle.std.specs.Prelude.{ℕ, suc, Bool, ◌==◌, List, [], ◌∷◌, Opt
 use Rattle.std.specs.Option.{ok_or}
 use Rattle.std.specs.Result.{result_ok}
 use Rattle.state_codec.specs.declared.op.Op.{Op}
-use Rattle.state_codec.specs.declared.op.Op.TheVariants.{SetOption, SetVolume, SetOrder, Queue, List as Lists, Sticker, Batch, Place}
+use Rattle.state_codec.specs.declared.op.Op.TheVariants.{SetOption, SetVolume, SetOrder, Queue, List as Lists, Sticker, Batch, Place, Timed}
 use Rattle.state_codec.specs.OpsLists.{list_refusal, after_list, leaves_lists}
 use Rattle.state_codec.specs.OpsPlace.{place_refusal, after_place, leaves_place}
 use Rattle.state_codec.specs.OpsQueue.{queue_refusal, after_queue, leaves_queue}
 use Rattle.state_codec.specs.OpsRows.{rows_refusal, after_rows, leaves_rows}
 use Rattle.state_codec.specs.OpsSettings.{with_setting, is_set}
 use Rattle.state_codec.specs.OpsStickers.{sticker_refusal, after_sticker, leaves_stickers}
+use Rattle.state_codec.specs.OpsTimes.{after_timed, leaves_times}
 use Rattle.state_codec.specs.SavedState.{SavedState}
 use Rattle.state_codec.specs.Steps.{◌>>=◌}
 use Rattle.state_codec.specs.declared.refusal.OpRefusal.{OpRefusal}
@@ -24,6 +25,7 @@ refusal_of (Lists op) s = list_refusal op s
 refusal_of (Sticker op) s = sticker_refusal op s
 refusal_of (Batch changes) s = rows_refusal changes s
 refusal_of (Place op) s = place_refusal s.profile
+refusal_of (Timed seconds) s = place_refusal s.profile
 
 -- the state after it, where nothing refuses it
 abbrev pub after : Op → SavedState → SavedState
@@ -35,6 +37,7 @@ after (Lists op) s = after_list op s
 after (Sticker op) s = after_sticker op s
 after (Batch changes) s = after_rows changes s
 after (Place op) s = after_place op s
+after (Timed seconds) s = after_timed seconds s
 
 -- whether it changes nothing; of a batch, whether no change of it does at its turn
 abbrev pub changes_nothing : Op → SavedState → Bool
@@ -46,6 +49,7 @@ changes_nothing (Lists op) s = leaves_lists op s
 changes_nothing (Sticker op) s = leaves_stickers op s
 changes_nothing (Batch changes) s = leaves_rows changes s
 changes_nothing (Place op) s = leaves_place op s.place
+changes_nothing (Timed seconds) s = leaves_times seconds s.changed
 
 -- a state, unless it is refused
 abbrev pub unless_refused : Option OpRefusal → SavedState → Option SavedState

@@ -1,13 +1,12 @@
 -- What the laws of ops say.
-use Rattle.std.specs.Prelude.{◌≡◌, Bool, true, false, List, [], ◌∷◌, Option, None}
-use Rattle.player_core.specs.Place.{PlaceState}
+use Rattle.std.specs.Prelude.{◌≡◌, Bool, true, false, List, [], ◌∷◌, None}
 use Rattle.song_db.specs.Change.{after_change}
 use Rattle.song_db.specs.Row.{Row}
 use Rattle.song_db.specs.declared.change.RowChange.{RowChange}
 use Rattle.state_codec.specs.Applied.{refusal_of}
 use Rattle.state_codec.specs.SavedState.{SavedState, IsSavedState}
 use Rattle.state_codec.specs.declared.op.Op.{Op}
-use Rattle.state_codec.specs.declared.op.Op.TheVariants.{SetOption, SetVolume, SetOrder, Queue, List as Lists, Sticker, Batch, Place}
+use Rattle.state_codec.specs.declared.op.Op.TheVariants.{SetOption, SetVolume, SetOrder, Queue, List as Lists, Sticker, Batch, Place, Timed}
 use Rattle.state_codec.specs.declared.op.list_op.ListOp.{ListOp}
 use Rattle.state_codec.specs.declared.op.queue_op.QueueOp.{QueueOp}
 use Rattle.state_codec.specs.declared.op.queue_op.QueueOp.TheVariants.{Add, Delete, Move, Swap, Shuffle, Prio}
@@ -39,20 +38,23 @@ is_batch (Lists op) = false
 is_batch (Sticker op) = false
 is_batch (Batch changes) = true
 is_batch (Place op) = false
+is_batch (Timed seconds) = false
 
-abbrev pub is_place : Op → Bool
-is_place (SetOption setting) = false
-is_place (SetVolume volume) = false
-is_place (SetOrder order) = false
-is_place (Queue op) = false
-is_place (Lists op) = false
-is_place (Sticker op) = false
-is_place (Batch changes) = false
-is_place (Place op) = true
+-- an op of what is kept behind a command: the player's place, and the time of what it changed of playlists
+abbrev pub is_behind : Op → Bool
+is_behind (SetOption setting) = false
+is_behind (SetVolume volume) = false
+is_behind (SetOrder order) = false
+is_behind (Queue op) = false
+is_behind (Lists op) = false
+is_behind (Sticker op) = false
+is_behind (Batch changes) = false
+is_behind (Place op) = true
+is_behind (Timed seconds) = true
 
--- the states that differ from one in the player's place alone
-abbrev pub but_place : Option PlaceState → SavedState → SavedState
-but_place place s = record s { place = place }
+-- a state with the player's place and the playlists' times as another one has them
+abbrev pub but_kept : SavedState → SavedState → SavedState
+but_kept t s = record s { place = t.place; changed = t.changed }
 
 -- each change leaves the rows as it finds them
 abbrev pub LeaveRows : List Row → List RowChange → Type 0
@@ -74,10 +76,11 @@ with_parts_of (SetOption setting) s t = record s { options = t.options }
 with_parts_of (SetVolume volume) s t = record s { volume = t.volume }
 with_parts_of (SetOrder order) s t = record s { order = t.order }
 with_parts_of (Queue op) s t = with_queue_of op s t
-with_parts_of (Lists op) s t = record s { lists = t.lists }
+with_parts_of (Lists op) s t = record s { lists = t.lists; changed = t.changed }
 with_parts_of (Sticker op) s t = record s { stickers = t.stickers }
 with_parts_of (Batch changes) s t = record s { songs = t.songs; queue = t.queue; stickers = t.stickers; place = t.place }
 with_parts_of (Place op) s t = record s { place = t.place }
+with_parts_of (Timed seconds) s t = record s { changed = t.changed }
 
 -- a shuffle draws its words by the order number
 abbrev pub draws_words : QueueOp → Bool
@@ -98,3 +101,4 @@ uses_order (Lists op) = false
 uses_order (Sticker op) = false
 uses_order (Batch changes) = false
 uses_order (Place op) = false
+uses_order (Timed seconds) = false

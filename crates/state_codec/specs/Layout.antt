@@ -10,6 +10,7 @@ use Rattle.stored_lists.specs.Limits.{MAX_LISTS}
 use Rattle.state_codec.specs.declared.layout.Layout.{Layout}
 use Rattle.state_codec.specs.declared.op.Op.{Op}
 use Rattle.state_codec.specs.declared.op.Op.TheVariants.{SetOption, SetVolume, SetOrder, Queue, List as OfList, Sticker, Batch, Place}
+use Rattle.state_codec.specs.declared.op.Op.TheVariants.{Timed}
 use Rattle.state_codec.specs.declared.op.setting.Setting.{Setting}
 use Rattle.state_codec.specs.declared.op.setting.Setting.TheVariants.{Repeat, Random, Single, Consume}
 use Rattle.state_codec.specs.SavedState.{SavedState}
@@ -70,6 +71,7 @@ IsOpIn layout (OfList op) = ⊤
 IsOpIn layout (Sticker op) = ⊤
 IsOpIn layout (Batch changes) = ⊤
 IsOpIn layout (Place op) = ⊤
+IsOpIn layout (Timed seconds) = ⊤
 
 -- ops whose values the layout has
 abbrev pub AreOpsIn : Layout → List Op → Type 0

@@ -5,6 +5,7 @@ pub mod Numbers
 pub mod Ops
 pub mod OpsLists
 pub mod OpsPlace
+pub mod OpsTimes
 pub mod OpsQueue
 pub mod OpsRows
 pub mod OpsSettings
@@ -25,6 +26,7 @@ pub mod Items
 pub mod Given
 pub mod ReadingRows
 pub mod ReadingPlace
+pub mod ReadingTimes
 pub mod ReadingOps
 pub mod ReadingSaved
 pub mod Reading
@@ -32,6 +34,7 @@ pub mod SpellingFields
 pub mod SpellingRows
 pub mod SpellingOps
 pub mod SpellingPlace
+pub mod SpellingTimes
 pub mod Spelling
 pub mod Answers
 pub mod Appended

@@ -45,12 +45,16 @@ longest_head = 32 + 8 + 4 + 4 + 1 + 4
 abbrev pub longest_lists : ℕ
 longest_lists = MAX_LISTS * longest_list + LISTS_LIMIT * longest_text MAX_URI_BYTES
 
--- the number of fields, field 2 and field 3; and the checksum
+-- field 1: how many times there are, and each with its name
+abbrev pub longest_times : ℕ
+longest_times = 4 + MAX_LISTS * (longest_text LIST_NAME_BYTES + 8)
+
+-- the number of fields, and each behind its number and its length; and the checksum
 abbrev pub longest_end : Profile → ℕ
 longest_end Named = 0
-longest_end Wide = (1 + (5 + 13) + (5 + 4 * longest_round)) + 4
+longest_end Wide = (1 + (5 + longest_times) + (5 + 13) + (5 + 4 * longest_round)) + 4
 
--- the head and the four parts, each behind its number, and what stands behind them: 692,197,445 bytes, or 2,457,213,025
+-- the head and the four parts, each behind its number, and what stands behind them: 692,197,445 bytes, or 2,457,485,418
 abbrev pub longest_snapshot : Profile → ℕ
 longest_snapshot profile =
     longest_head + (4 + MAX_ROWS * longest_row profile) + (4 + QUEUE_LIMIT * longest_entry) + (4 + longest_lists)

@@ -9,6 +9,7 @@ use Rattle.state_codec.specs.Numbers.{MAX_COUNT, AreRowNumbers, AreOpRanges}
 use Rattle.state_codec.specs.Text.{is_text, is_sticker_text}
 use Rattle.state_codec.specs.declared.op.Op.{Op}
 use Rattle.state_codec.specs.declared.op.Op.TheVariants.{SetOption, SetVolume, SetOrder, Queue, List as OfList, Sticker, Batch, Place}
+use Rattle.state_codec.specs.declared.op.Op.TheVariants.{Timed}
 use Rattle.state_codec.specs.declared.op.place_op.PlaceOp.{PlaceOp}
 use Rattle.state_codec.specs.declared.op.place_op.PlaceOp.TheVariants as places
 use Rattle.state_codec.specs.declared.op.queue_op.QueueOp.{QueueOp}
@@ -64,6 +65,7 @@ IsOp (OfList op) = IsListOp op
 IsOp (Sticker op) = IsStickerOp op
 IsOp (Batch changes) = AreChanges changes
 IsOp (Place op) = IsPlaceOp op
+IsOp (Timed seconds) = seconds < 2 ^ 64
 
 abbrev pub KeepsPlace : Profile → Type 0
 KeepsPlace Named = ⊥
@@ -79,6 +81,7 @@ IsKeptOp profile (OfList op) = Unit {0}
 IsKeptOp profile (Sticker op) = Unit {0}
 IsKeptOp profile (Batch changes) = IsTrue (are_kept profile changes)
 IsKeptOp profile (Place op) = KeepsPlace profile
+IsKeptOp profile (Timed seconds) = KeepsPlace profile
 
 -- the ops of one record under a profile: at least one
 abbrev pub AreOps : Profile → List Op → Type 0

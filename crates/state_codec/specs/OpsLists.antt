@@ -3,6 +3,7 @@ use Rattle.std.specs.Prelude.{Bool, true, false, ◌==◌, ◌&&◌, List, [], �
 use Rattle.std.specs.Str.{bytes_eq}
 use Rattle.play_queue.specs.declared.entry.Entry.{Entry}
 use Rattle.state_codec.specs.OpsSongs.{have_rows, uris_at, if_named}
+use Rattle.state_codec.specs.OpsTimes.{list_times}
 use Rattle.state_codec.specs.SavedState.{SavedState}
 use Rattle.state_codec.specs.declared.op.list_op.ListOp.{ListOp}
 use Rattle.state_codec.specs.declared.op.list_op.ListOp.TheVariants.{Save, Add, Remove, Move, Clear, Rename, Drop}
@@ -36,10 +37,6 @@ lists_after (Clear name) s = with_songs s.lists name []
 lists_after (Rename from to) s = renamed s.lists from to
 lists_after (Drop name) s = without_list s.lists name
 
--- the state after it
-abbrev pub after_list : ListOp → SavedState → SavedState
-after_list op s = record s { lists = lists_after op s }
-
 abbrev pub same_uris : Uris → Uris → Bool
 same_uris [] [] = true
 same_uris [] (other ∷ others) = false
@@ -55,3 +52,11 @@ leaves_lists (Move name from to) s = same_uris (moved (songs_or_none s.lists nam
 leaves_lists (Clear name) s = length (songs_or_none s.lists name) == 0
 leaves_lists (Rename from to) s = false
 leaves_lists (Drop name) s = false
+
+-- with the playlists after it
+abbrev pub lists_edited : ListOp → SavedState → SavedState
+lists_edited op s = record s { lists = lists_after op s }
+
+-- the state after it: the playlists, and the time of the one that it changed
+abbrev pub after_list : ListOp → SavedState → SavedState
+after_list op s = record s { lists = lists_after op s; changed = list_times (leaves_lists op s) op s.changed }

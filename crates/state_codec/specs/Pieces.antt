@@ -1,6 +1,6 @@
 -- A snapshot that is handed over in pieces.
 use Rattle.std.specs.Prelude.{◌≡◌, ◌≢◌, ◌≤◌, ◌+◌, ℕ, Bool, List, [], ◌++◌, length, fold, bit_xor}
-use Rattle.std.specs.Prelude.{unwrap_or, Option, if◌then◌else◌, vec_capacity}
+use Rattle.std.specs.Prelude.{unwrap_or, Option, Some, None, if◌then◌else◌, vec_capacity}
 use Rattle.std.specs.Global.{Vec}
 use Rattle.std.specs.List.{flat_map}
 use Rattle.profile.specs.declared.profile.Profile.{Profile}
@@ -8,11 +8,14 @@ use Rattle.profile.specs.declared.profile.Profile.TheVariants.{Named, Wide}
 use Rattle.stickers.specs.Named.{Values, Songs}
 use Rattle.stickers.specs.Sticker.{Sticker, flat, in_song}
 use Rattle.stored_lists.specs.Lists.{Stored}
+use Rattle.stored_lists.specs.Times.{Times}
+use Rattle.player_core.specs.Place.{PlaceState}
 use Rattle.state_codec.specs.Appended.{IsShortSticker}
 use Rattle.state_codec.specs.Checksum.{with_byte, ONES}
 use Rattle.state_codec.specs.Longest.{longest_sticker}
 use Rattle.state_codec.specs.Spelling.{playlist_bytes, sticker_bytes}
 use Rattle.state_codec.specs.SpellingFields.{text_bytes, u32_bytes}
+use Rattle.state_codec.specs.SpellingTimes.{times_head}
 
 -- how many bytes a piece has at most
 abbrev pub longest_piece : ℕ
@@ -61,6 +64,12 @@ stickers_in uri values songs = in_song (uri, unwrap_or values []) ++ flat songs
 pub record IsStickerItem (sticker : Sticker) : Type 0 where
   pub short : IsShortSticker sticker
   pub fits : length (sticker_bytes sticker) ≤ longest_sticker
+
+-- the number of fields, and what stands in front of the times, where both are kept
+abbrev pub front_of_fields : Option Times → Option PlaceState → List ℕ
+front_of_fields None place = []
+front_of_fields (Some times) None = []
+front_of_fields (Some times) (Some place) = times_head times place
 
 -- the bytes, and their checksum where the profile asks for one, which has come so far
 abbrev pub sealed_from : Profile → ℕ → List ℕ → List ℕ

@@ -4,6 +4,7 @@ use Rattle.std.specs.Int.{is_in_range}
 use Rattle.stickers.specs.Value.{is_good_value}
 use Rattle.state_codec.specs.declared.op.Op.{Op}
 use Rattle.state_codec.specs.declared.op.Op.TheVariants.{SetOption, SetVolume, SetOrder, Queue, List as OfList, Sticker, Batch, Place}
+use Rattle.state_codec.specs.declared.op.Op.TheVariants.{Timed}
 use Rattle.state_codec.specs.declared.op.setting.Setting.{Setting}
 use Rattle.state_codec.specs.declared.op.setting.Setting.TheVariants as settings
 use Rattle.state_codec.specs.declared.op.queue_op.QueueOp.{QueueOp}
@@ -18,6 +19,7 @@ use Rattle.state_codec.specs.Fields.{text_at}
 use Rattle.state_codec.specs.Items.{list_at}
 use Rattle.state_codec.specs.ReadingPlace.{is_place_kind, place_op_at}
 use Rattle.state_codec.specs.ReadingRows.{uri_at, changes_at}
+use Rattle.state_codec.specs.ReadingTimes.{is_time_kind}
 use Rattle.state_codec.specs.Steps.{◌>>=◌}
 
 -- an option's number and its value
@@ -79,6 +81,7 @@ op_at layout bytes = do
       else if is_in_range 10 16 kind.0 then made OfList (list_op_at kind.0 kind.1)
       else if is_in_range 17 19 kind.0 then made Sticker (sticker_op_at kind.0 kind.1)
       else if kind.0 == 20 then made Batch (changes_at layout.profile kind.1)
+      else if is_time_kind layout.profile kind.0 then made Timed (u64_at kind.1)
       else if is_place_kind layout.profile kind.0 then made Place (place_op_at kind.0 kind.1)
       else Err (length bytes)
 

@@ -2,12 +2,12 @@
 use Rattle.std.specs.Prelude.{ℕ, zero, suc, ◌+◌, ◌-◌, ◌*◌, ◌/◌, Bool, false, not, ◌==◌, ◌&&◌, List, [], ◌∷◌, length, drop, Ok, Err}
 use Rattle.std.specs.Prelude.{if◌then◌else◌}
 use Rattle.std.specs.Int.{is_in_range}
-use Rattle.player_core.specs.Place.{PlaceState, longest_round, no_place}
+use Rattle.player_core.specs.Place.{longest_round, no_place}
 use Rattle.player_core.specs.declared.playing.PlayState.{PlayState}
 use Rattle.player_core.specs.declared.playing.PlayState.TheVariants.{Stop, Play, Pause}
 use Rattle.profile.specs.declared.profile.Profile.{Profile}
 use Rattle.profile.specs.declared.profile.Profile.TheVariants.{Named, Wide}
-use Rattle.state_codec.specs.Fields.{Field, made, such, both, byte_at, u32_at, u64_at}
+use Rattle.state_codec.specs.Fields.{Field, made, such, both, u32_at, u64_at}
 use Rattle.state_codec.specs.Items.{items_at}
 use Rattle.state_codec.specs.OpsPlace.{stays_by}
 use Rattle.state_codec.specs.Steps.{◌>>=◌}
@@ -76,12 +76,3 @@ spot_field_at left bytes = field_at 2 (is_in_range 13 13) (λ len. such is_spot 
 abbrev pub round_field_at : ℕ → List ℕ → Field (List ℕ × ℕ)
 round_field_at left bytes =
     field_at 3 (is_in_range 4 (4 * longest_round)) (λ len. items_at (λ known. u32_at) (len / 4) []) [] left bytes
-
--- the fields, behind their number in one byte; one that isn't known, or doesn't rise, is at fault
-unfoldable pub place_at : List ℕ → Field PlaceState
-place_at bytes = do
-  count ← byte_at bytes
-  spot ← spot_field_at count.0 count.1
-  round ← round_field_at spot.0.1 spot.1
-  if round.0.1 == 0 then Ok (record { state = spot.0.0.0; song = spot.0.0.1.0; frame = spot.0.0.1.1; played = round.0.0 }, round.1)
-      else Err (length round.1)

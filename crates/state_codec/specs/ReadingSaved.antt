@@ -28,8 +28,8 @@ use Rattle.state_codec.specs.Fields.{Field, such, byte_at, u32_at, u64_at, numbe
 use Rattle.state_codec.specs.Fields.{text_at}
 use Rattle.state_codec.specs.Items.{counted_at}
 use Rattle.state_codec.specs.ReadingOps.{value_at}
-use Rattle.state_codec.specs.ReadingPlace.{place_at}
 use Rattle.state_codec.specs.ReadingRows.{uri_at, row_at}
+use Rattle.state_codec.specs.ReadingTimes.{fields_at}
 use Rattle.state_codec.specs.SavedState.{SavedState}
 use Rattle.state_codec.specs.Steps.{◌>>=◌}
 
@@ -131,7 +131,7 @@ header_at layout bytes = do
   options ← options_at layout volume.1
   Ok (record { key = key.0; order = order.0; version = version.0; next_id = next_id.0; volume = volume.0; options = options.0 }, options.1)
 
--- rows, queue entries, playlists and stickers, behind a header; no place is known yet
+-- rows, queue entries, playlists and stickers, behind a header; no time and no place is known yet
 unfoldable pub parts_at : Layout → Header → List ℕ → Field SavedState
 parts_at layout header bytes = do
   songs ← songs_at layout.profile bytes
@@ -150,17 +150,18 @@ parts_at layout header bytes = do
       lists = lists.0;
       stickers = stickers.0;
       place = None;
+      changed = None;
     },
     stickers.1,
   )
 
--- behind the parts the second profile has fields: those of the player's place
+-- behind the parts the second profile has fields: those of the playlists' times and of the player's place
 abbrev pub before_fields : Profile → Field SavedState → Field SavedState
 before_fields Named field = field
 before_fields Wide field = do
   parts ← field
-  place ← place_at parts.1
-  Ok (record parts.0 { place = Some place.0 }, place.1)
+  fields ← fields_at parts.1
+  Ok (record parts.0 { place = Some fields.0.1; changed = Some fields.0.0 }, fields.1)
 
 -- a snapshot without its checksum
 unfoldable pub saved_at : Layout → List ℕ → Field SavedState

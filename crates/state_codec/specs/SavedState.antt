@@ -14,6 +14,7 @@ use Rattle.song_db.specs.Row.{Row, is_kept_by}
 use Rattle.state_codec.specs.Changes.{IsSavedRow}
 use Rattle.stickers.specs.Sticker.{Sticker, IsWithinLimits as AreStickers}
 use Rattle.stored_lists.specs.Lists.{Stored, IsRising, IsWithinLimits as AreLists}
+use Rattle.stored_lists.specs.Times.{Times, AreTimes}
 
 pub record SavedState : Type 0 where
   pub profile : Profile
@@ -26,6 +27,7 @@ pub record SavedState : Type 0 where
   pub lists : Stored
   pub stickers : List Sticker
   pub place : Option PlaceState
+  pub changed : Option Times
 
 -- the key of the random order has so many bytes
 abbrev pub key_len : ℕ
@@ -78,6 +80,13 @@ IsSavedPlace Named (Some place) = ⊥
 IsSavedPlace Wide None = ⊥
 IsSavedPlace Wide (Some place) = IsPlace place
 
+-- so are the times of the playlists' last change
+abbrev pub AreSavedTimes : Profile → Option Times → Type 0
+AreSavedTimes Named None = Unit {0}
+AreSavedTimes Named (Some times) = ⊥
+AreSavedTimes Wide None = ⊥
+AreSavedTimes Wide (Some times) = AreTimes times
+
 pub record IsSavedState (s : SavedState) : Type 0 where
   pub key_len : length s.key ≡ key_len
   pub key_bytes : IsBytes s.key
@@ -89,10 +98,15 @@ pub record IsSavedState (s : SavedState) : Type 0 where
   pub lists : AreSavedLists s.lists
   pub stickers : AreSavedStickers s.songs s.stickers
   pub place : IsSavedPlace s.profile s.place
+  pub changed : AreSavedTimes s.profile s.changed
 
 abbrev pub first_place : Profile → Option PlaceState
 first_place Named = None
 first_place Wide = Some no_place
+
+abbrev pub first_times : Profile → Option Times
+first_times Named = None
+first_times Wide = Some []
 
 -- the state of a new journal
 abbrev pub fresh : Profile → List ℕ → SavedState
@@ -108,11 +122,12 @@ fresh profile key =
       lists = [];
       stickers = [];
       place = first_place profile;
+      changed = first_times profile;
     }
 
--- the state as the wide profile takes it: it keeps all that the other one does, and the player's place from now on
+-- the state as the wide profile takes it: it keeps all that the other one does, and from now on the player's place and the playlists' times
 abbrev pub widened_from : Profile → SavedState → SavedState
-widened_from Named s = record s { profile = Wide; place = Some no_place }
+widened_from Named s = record s { profile = Wide; place = Some no_place; changed = Some [] }
 widened_from Wide s = s
 
 abbrev pub widened : SavedState → SavedState

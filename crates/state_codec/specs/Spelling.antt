@@ -14,8 +14,9 @@ use Rattle.state_codec.specs.SavedState.{SavedState}
 use Rattle.state_codec.specs.Sealed.{sealed}
 use Rattle.state_codec.specs.SpellingFields.{byte_bytes, u32_bytes, u64_bytes, flag_bytes, single_bytes, text_bytes, list_bytes}
 use Rattle.state_codec.specs.SpellingOps.{op_bytes}
-use Rattle.state_codec.specs.SpellingPlace.{place_bytes}
 use Rattle.state_codec.specs.SpellingRows.{row_bytes}
+use Rattle.state_codec.specs.SpellingTimes.{fields_bytes}
+use Rattle.stored_lists.specs.Times.{Times}
 
 -- ops one after the other
 abbrev pub ops_bytes : Profile → List Op → List ℕ
@@ -53,15 +54,15 @@ parts_bytes s =
     list_bytes (row_bytes s.profile) s.songs
     ++ (list_bytes (entry_bytes s.songs) s.queue.entries ++ (list_bytes playlist_bytes s.lists ++ list_bytes sticker_bytes s.stickers))
 
--- behind the parts the second profile has fields: those of the player's place
-abbrev pub with_fields : Profile → Option PlaceState → List ℕ → List ℕ
-with_fields Named place bytes = bytes
-with_fields Wide place bytes = bytes ++ place_bytes (unwrap_or place no_place)
+-- behind the parts the second profile has fields: those of the playlists' times and of the player's place
+abbrev pub with_fields : Profile → Option Times → Option PlaceState → List ℕ → List ℕ
+with_fields Named times place bytes = bytes
+with_fields Wide times place bytes = bytes ++ fields_bytes (unwrap_or times []) (unwrap_or place no_place)
 
 -- the fields of a state
 abbrev pub fields_of : SavedState → List ℕ
-fields_of s = with_fields s.profile s.place []
+fields_of s = with_fields s.profile s.changed s.place []
 
 -- a snapshot, with its checksum where the profile asks for one
 abbrev pub saved_bytes : SavedState → List ℕ
-saved_bytes s = sealed s.profile (with_fields s.profile s.place (head_bytes s ++ parts_bytes s))
+saved_bytes s = sealed s.profile (with_fields s.profile s.changed s.place (head_bytes s ++ parts_bytes s))

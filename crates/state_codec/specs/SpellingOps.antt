@@ -3,6 +3,7 @@ use Rattle.std.specs.Prelude.{ℕ, List, [], ◌∷◌, ◌++◌}
 use Rattle.profile.specs.declared.profile.Profile.{Profile}
 use Rattle.state_codec.specs.declared.op.Op.{Op}
 use Rattle.state_codec.specs.declared.op.Op.TheVariants.{SetOption, SetVolume, SetOrder, Queue, List as OfList, Sticker, Batch, Place}
+use Rattle.state_codec.specs.declared.op.Op.TheVariants.{Timed}
 use Rattle.state_codec.specs.declared.op.setting.Setting.{Setting}
 use Rattle.state_codec.specs.declared.op.setting.Setting.TheVariants as settings
 use Rattle.state_codec.specs.declared.op.place_op.PlaceOp.{PlaceOp}
@@ -100,3 +101,4 @@ op_bytes profile (OfList op) = list_kind op ∷ list_fields op
 op_bytes profile (Sticker op) = sticker_kind op ∷ sticker_fields op
 op_bytes profile (Batch changes) = 20 ∷ changes_bytes profile changes
 op_bytes profile (Place op) = place_kind op ∷ place_fields op
+op_bytes profile (Timed seconds) = 21 ∷ u64_bytes seconds

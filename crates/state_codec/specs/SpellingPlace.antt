@@ -4,7 +4,7 @@ use Rattle.std.specs.Prelude.{ℕ, ◌+◌, ◌*◌, List, [], ◌∷◌, ◌++�
 use Rattle.std.specs.List.{flat_map}
 use Rattle.player_core.specs.Place.{PlaceState, no_place}
 use Rattle.state_codec.specs.OpsPlace.{is_empty, stays_by}
-use Rattle.state_codec.specs.SpellingFields.{byte_bytes, u32_bytes, u64_bytes, state_bytes}
+use Rattle.state_codec.specs.SpellingFields.{u32_bytes, u64_bytes, state_bytes}
 use Rattle.state_codec.specs.declared.op.place_op.PlaceOp.TheVariants.{Put}
 
 -- where the player was: state, song and frame position
@@ -23,13 +23,14 @@ spot_field place = if stays_by (Put place.state place.song place.frame) no_place
 abbrev pub round_head : List ℕ → List ℕ
 round_head ids = if is_empty ids then [] else 3 ∷ u32_bytes (4 * length ids)
 
+-- how many of the two there are
 abbrev pub field_count : PlaceState → ℕ
 field_count place = (if stays_by (Put place.state place.song place.frame) no_place then 0 else 1) + (if is_empty place.played then 0 else 1)
 
--- the number of fields, field 2 and the front of field 3
+-- field 2 and the front of field 3
 abbrev pub place_head : PlaceState → List ℕ
-place_head place = byte_bytes (field_count place) ++ (spot_field place ++ round_head place.played)
+place_head place = spot_field place ++ round_head place.played
 
--- the fields, behind their number in one byte
+-- both fields
 abbrev pub place_bytes : PlaceState → List ℕ
 place_bytes place = place_head place ++ flat_map u32_bytes place.played

@@ -15,4 +15,5 @@ state_of parts =
       lists = parts.lists;
       stickers = parts.stickers;
       place = parts.place;
+      changed = parts.changed;
     }

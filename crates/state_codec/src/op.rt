@@ -38,4 +38,7 @@ pub enum Op {
     Batch(Changes),
     /// What is kept of the player.
     Place(PlaceOp),
+    /// The playlists that were changed and aren't timed yet were changed at this time, in seconds since the beginning of 1970. The named
+    /// profile, which keeps no times, refuses it, as a row without a place.
+    Timed(u64),
 }

@@ -5,7 +5,7 @@ ghost use Rattle.state_codec.specs.Appended.{HasRoom};
 ghost use Rattle.state_codec.specs.Checksum.{with_byte, ONES};
 ghost use Rattle.state_codec.specs.Pieces.{longest_piece, IsPiece, sealed_from};
 ghost use Rattle.state_codec.specs.SavedState.{IsSavedState};
-ghost use Rattle.state_codec.specs.Spelling.{head_bytes, parts_bytes, saved_bytes, with_fields};
+ghost use Rattle.state_codec.specs.Spelling.{fields_of, head_bytes, parts_bytes, saved_bytes, with_fields};
 ghost use Rattle.state_codec.specs.SpellingFields.{byte_bytes, u32_bytes};
 
 use crate::checksum::with_bytes;
@@ -16,14 +16,18 @@ use part::{Both, Counted, Part, fill};
 use place::{PlaceHeadLeft, RoundLeft};
 use profile::Profile;
 use std::marker::Model;
+use times::{TimesHeadLeft, TimesLeft};
 
 mod items;
 mod part;
 mod place;
+mod times;
 
 type PlaceLeft<'a> = Both<PlaceHeadLeft<'a>, RoundLeft<'a>>;
 
-type Texts<'a> = Both<Counted<ListsLeft<'a>>, Both<Counted<StickersLeft<'a>>, PlaceLeft<'a>>>;
+type FieldsLeft<'a> = Both<TimesHeadLeft<'a>, Both<TimesLeft<'a>, PlaceLeft<'a>>>;
+
+type Texts<'a> = Both<Counted<ListsLeft<'a>>, Both<Counted<StickersLeft<'a>>, FieldsLeft<'a>>>;
 
 type Parts<'a> = Both<
     HeadLeft<'a>,
@@ -100,7 +104,7 @@ impl<'a> SavedPieces<'a> {
 // The head, the four parts and the fields of a saved state.
 fn parts_of(saved: &Saved) -> Parts<'_>
     ensures { ⟦<Parts<'static> as Part>⟧.left result
-        ≡ with_fields saved.now.profile saved.now.place (head_bytes saved.now ++ parts_bytes saved.now) }
+        ≡ with_fields saved.now.profile saved.now.changed saved.now.place (head_bytes saved.now ++ parts_bytes saved.now) }
 {
     let _key = saved.key();
     Both {
@@ -129,12 +133,26 @@ fn parts_of(saved: &Saved) -> Parts<'_>
                             is_told: false,
                             items: StickersLeft::new(saved.stickers()),
                         },
-                        second: Both {
-                            first: PlaceHeadLeft::new(saved.place()),
-                            second: RoundLeft::new(saved.place()),
-                        },
+                        second: fields_of(saved),
                     },
                 },
+            },
+        },
+    }
+}
+
+// The fields of a saved state.
+fn fields_of(saved: &Saved) -> FieldsLeft<'_>
+    ensures { ⟦<FieldsLeft<'static> as Part>⟧.left result ≡ fields_of saved.now }
+{
+    let _key = saved.key();
+    Both {
+        first: TimesHeadLeft::new(saved.changed(), saved.place()),
+        second: Both {
+            first: TimesLeft::new(saved.changed()),
+            second: Both {
+                first: PlaceHeadLeft::new(saved.place()),
+                second: RoundLeft::new(saved.place()),
             },
         },
     }

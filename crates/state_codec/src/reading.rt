@@ -24,6 +24,7 @@ mod queue;
 mod rows;
 mod saved;
 mod sticker_list;
+mod times;
 
 // What is told of a fault in the body of a record.
 fn op_error(bytes: &[u8], error: ReadError) -> CodecError

@@ -1,7 +1,7 @@
 // The saved half of the state: what a restart finds again.
-ghost use Rattle.std.specs.Prelude.{◌≡◌, IfOk, OnErr, OnOk};
+ghost use Rattle.std.specs.Prelude.{◌≡◌, IfOk, IsOk, OnErr, OnOk};
 ghost use Rattle.std.specs.Option.{option_copied};
-ghost use Rattle.state_codec.specs.SavedState.{IsSavedState, first_place, fresh, widened};
+ghost use Rattle.state_codec.specs.SavedState.{IsSavedState, first_place, first_times, fresh, widened};
 ghost use Rattle.state_codec.specs.Stored.{state_of};
 
 use no_memory::NoMemory;
@@ -12,7 +12,7 @@ use song_db::SongDb;
 use std::alloc::Global;
 use std::marker::Model;
 use stickers::Stickers;
-use stored_lists::Lists;
+use stored_lists::{ListTimes, Lists};
 
 mod applying;
 mod batch;
@@ -25,6 +25,7 @@ mod replacing;
 mod row_edits;
 mod sticker_edits;
 mod telling;
+mod timing;
 
 pub use batch::{dropped_by, row_behind};
 pub use parts::SavedParts;
@@ -50,9 +51,10 @@ impl Model for Saved {
 
 impl Saved {
     /// The state of a new journal, whose random order is drawn from this key. Under the wide profile it takes the memory that the player's
-    /// place may need, and else none yet.
+    /// place and the playlists' times may need, and else none yet.
     pub fn fresh(alloc: Global, profile: Profile, key: [u8; 32]) -> Result<Self, NoMemory>
-        ensures { IfOk result (λ saved. saved ≡ fresh profile key) }
+        ensures ok { IfOk result (λ saved. saved ≡ fresh profile key) }
+        ensures named { profile ≡ Profile.Named → IsOk result }
     {
         Ok(Saved {
             parts: SavedParts {
@@ -66,6 +68,7 @@ impl Saved {
                 lists: Lists::new(alloc),
                 stickers: Stickers::new(alloc),
                 place: first_place(alloc, profile)?,
+                changed: first_times(alloc, profile)?,
             },
         })
     }
@@ -85,16 +88,19 @@ impl Saved {
         self.parts.profile
     }
 
-    /// Brings the state to the wide profile, which keeps all that the other one does, and takes the memory that the player's place
-    /// may need. Without it the state stays as it was.
+    /// Brings the state to the wide profile, which keeps all that the other one does, and takes the memory that the player's place and
+    /// the playlists' times may need. Without it the state stays as it was.
     pub fn widen(&mut self, alloc: Global) -> Result<(), NoMemory>
         ensures ok { OnOk result (self.new ≡ widened self.old) }
         ensures err { OnErr result (self.new ≡ self.old) }
+        ensures wide { self.old.profile ≡ Profile.Wide → IsOk result }
     {
         match self.parts.profile {
             Profile::Named => {
                 let place = Place::new(alloc)?;
+                let times = ListTimes::new(alloc)?;
                 self.parts.place = Some(place);
+                self.parts.changed = Some(times);
                 self.parts.profile = Profile::Wide;
                 Ok(())
             }
@@ -160,6 +166,13 @@ impl Saved {
         self.parts.place.as_ref()
     }
 
+    /// When playlists were last changed, where that is kept.
+    pub fn changed(&self) -> Option<&ListTimes>
+        ensures { option_copied result ≡ self.now.changed }
+    {
+        self.parts.changed.as_ref()
+    }
+
     /// The same state once more, in memory of its own.
     pub fn try_clone(&self, alloc: Global) -> Result<Saved, NoMemory>
         ensures { IfOk result (λ copy. copy ≡ self.now) }
@@ -177,6 +190,7 @@ impl Saved {
                 lists: parts.lists.try_clone(alloc)?,
                 stickers: parts.stickers.try_clone(alloc)?,
                 place: copy_of(alloc, parts.place.as_ref())?,
+                changed: copy_of_times(alloc, parts.changed.as_ref())?,
             },
         })
     }
@@ -184,11 +198,33 @@ impl Saved {
 
 // What a new journal keeps of the player.
 fn first_place(alloc: Global, profile: Profile) -> Result<Option<Place>, NoMemory>
-    ensures { IfOk result (λ place. place ≡ first_place profile) }
+    ensures place { IfOk result (λ place. place ≡ first_place profile) }
+    ensures named { profile ≡ Profile.Named → IsOk result }
 {
     match profile {
         Profile::Named => Ok(None),
         Profile::Wide => Ok(Some(Place::new(alloc)?)),
+    }
+}
+
+// What a new journal keeps of when playlists were changed.
+fn first_times(alloc: Global, profile: Profile) -> Result<Option<ListTimes>, NoMemory>
+    ensures times { IfOk result (λ times. times ≡ first_times profile) }
+    ensures named { profile ≡ Profile.Named → IsOk result }
+{
+    match profile {
+        Profile::Named => Ok(None),
+        Profile::Wide => Ok(Some(ListTimes::new(alloc)?)),
+    }
+}
+
+// Times once more, if they are kept.
+fn copy_of_times(alloc: Global, times: Option<&ListTimes>) -> Result<Option<ListTimes>, NoMemory>
+    ensures { IfOk result (λ copy. copy ≡ option_copied times.entry) }
+{
+    match times {
+        Some(times) => Ok(Some(times.try_clone(alloc)?)),
+        None => Ok(None),
     }
 }
 

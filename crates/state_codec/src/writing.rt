@@ -22,6 +22,7 @@ mod place;
 mod rows;
 mod saved;
 mod sums;
+mod times;
 
 pub(crate) use bytes::{put_byte, put_text, put_u32};
 pub(crate) use lengths::saved_len;
@@ -29,6 +30,7 @@ pub(crate) use ops::{put_uri, uri_len};
 pub(crate) use place::put_place_head;
 pub(crate) use rows::{put_row, texts_len};
 pub(crate) use saved::{put_entry, put_head, put_sticker, row_number};
+pub(crate) use times::{put_time, put_times_head};
 
 /// Appends the spelling of an op under a profile. It takes no memory: it is refused where the spare room is less than
 /// `spelled_len` of the op, and then changes nothing.
@@ -115,8 +117,10 @@ fn put_fields(out: &mut Vec<u8>, saved: &Saved)
     ensures { Appends out.old out.new (fields_of saved.now) }
 {
     let _key = saved.key();
-    if let Some(place) = saved.place() {
-        place::put_place(out, place);
+    if let Some(times) = saved.changed() {
+        if let Some(place) = saved.place() {
+            times::put_all_fields(out, times, place);
+        }
     }
 }
 

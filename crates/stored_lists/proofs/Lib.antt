@@ -4,4 +4,5 @@ pub mod Counted
 mod Last
 pub mod Renamed
 pub mod Replaced
+pub mod Timed
 mod Turned

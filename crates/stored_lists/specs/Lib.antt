@@ -6,3 +6,4 @@ pub mod Name
 pub mod Part
 pub mod Refusal
 pub mod Songs
+pub mod Times

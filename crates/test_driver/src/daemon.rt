@@ -37,6 +37,7 @@ fn serve_opened<W: Threads + Wait + Clock + Sync>(
     let workers = Workers {
         sources: MemFolder::new(alloc),
         folder: MemFolder::new(alloc),
+        pictures: None,
         rules: LibraryRules::NAMED,
         output: SoundOutput {
             writer: Vec::new(alloc),

@@ -23,20 +23,26 @@ pub fn write_directory(out: &mut Vec<u8>, path: &str) -> Result<(), NoMemory>
     write_pair(out, "directory", path.as_bytes())
 }
 
-/// Adds the line `playlist: NAME`, and behind it, in the wide profile, a time that clients take for an unknown one.
-pub fn write_playlist(out: &mut Vec<u8>, profile: Profile, name: &str) -> Result<(), NoMemory>
-    ensures { Adds (playlist_lines profile name.now) result out.old out.new }
+/// Adds the line `playlist: NAME`, and behind it, in the wide profile, when it was last changed, in seconds since the beginning of 1970:
+/// clients take 0 for an unknown time.
+pub fn write_playlist(
+    out: &mut Vec<u8>,
+    profile: Profile,
+    name: &str,
+    seconds: u64,
+) -> Result<(), NoMemory>
+    ensures { Adds (playlist_lines profile seconds name.now) result out.old out.new }
 {
     write_pair(out, "playlist", name.as_bytes())?;
-    write_list_time(out, profile)
+    write_list_time(out, profile, seconds)
 }
 
-fn write_list_time(out: &mut Vec<u8>, profile: Profile) -> Result<(), NoMemory>
-    ensures { Adds (list_time profile) result out.old out.new }
+fn write_list_time(out: &mut Vec<u8>, profile: Profile, seconds: u64) -> Result<(), NoMemory>
+    ensures { Adds (list_time profile seconds) result out.old out.new }
 {
     match profile {
         Profile::Named => Ok(()),
-        Profile::Wide => write_time(out, "Last-Modified", 0),
+        Profile::Wide => write_time(out, "Last-Modified", seconds),
     }
 }
 

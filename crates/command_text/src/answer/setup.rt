@@ -56,6 +56,7 @@ pub fn write_setup(out: &mut Vec<u8>, command: SetupCommand) -> Result<(), NoMem
     ensures { Adds (setup_lines command) result out.old out.new }
 {
     match command {
+        SetupCommand::BinaryLimit(_) => Ok(()),
         SetupCommand::Decoders => write_decoders(out),
         SetupCommand::Mounts => write_pair(out, "mount", b""),
         SetupCommand::Nothing => Ok(()),

@@ -1,8 +1,9 @@
 // Reads the commands of what a daemon is set up with.
 ghost use Rattle.std.specs.Prelude.{◌≡◌, codes};
 ghost use Rattle.std.specs.Str.{bytes_eq};
-ghost use Rattle.command_text.specs.Setup.{first_word, if_so, is_no_gain, of_output, setup_count, setup_for, setup_of};
+ghost use Rattle.command_text.specs.Setup.{first_word, if_so, is_no_gain, limit_of, of_output, setup_count, setup_for, setup_of};
 
+use crate::argument::number_to;
 use crate::refusal::{CommandRefusal, SetupRefusal};
 use crate::topic::SetupName;
 use filter_expr::LineWord;
@@ -10,6 +11,8 @@ use filter_expr::LineWord;
 /// A command of what a daemon is set up with: of each thing there is one that stays as it is, or none.
 #[derive(Clone, Copy, Debug, PartialEq, Eq)]
 pub enum SetupCommand {
+    /// How many bytes of a picture an answer to this client may have at most.
+    BinaryLimit(u32),
     /// The decoders, with the endings and the types of what they read.
     Decoders,
     Mounts,
@@ -43,7 +46,6 @@ fn count_of(name: SetupName) -> usize
         | SetupName::Outputs
         | SetupName::ReplayGainStatus
         | SetupName::UrlHandlers => 0,
-        SetupName::AlbumArt | SetupName::ReadPicture => 2,
         SetupName::SetOutput => 3,
         _ => 1,
     }
@@ -64,8 +66,7 @@ fn read_first(name: SetupName, word: &[u8]) -> Result<SetupCommand, CommandRefus
     ensures { result ≡ setup_for name word.now }
 {
     match name {
-        SetupName::AlbumArt => Err(CommandRefusal::Setup(SetupRefusal::NoPicture)),
-        SetupName::BinaryLimit => Ok(SetupCommand::Nothing),
+        SetupName::BinaryLimit => limit(word),
         SetupName::Crossfade => if_so(is_zero(word), SetupRefusal::NoCrossfade),
         SetupName::Decoders => Ok(SetupCommand::Decoders),
         SetupName::DisableOutput => of_output(word, SetupRefusal::AlwaysOn),
@@ -80,7 +81,6 @@ fn read_first(name: SetupName, word: &[u8]) -> Result<SetupCommand, CommandRefus
         SetupName::Partition => if_so(word == b"default".as_slice(), SetupRefusal::NoSuchPartition),
         SetupName::Password => Err(CommandRefusal::Setup(SetupRefusal::IncorrectPassword)),
         SetupName::ReadComments => Ok(SetupCommand::Nothing),
-        SetupName::ReadPicture => Ok(SetupCommand::Nothing),
         SetupName::ReplayGainMode => if_so(
             word == b"off".as_slice(),
             SetupRefusal::UnrecognizedGain,
@@ -88,6 +88,20 @@ fn read_first(name: SetupName, word: &[u8]) -> Result<SetupCommand, CommandRefus
         SetupName::ReplayGainStatus => Ok(SetupCommand::ReplayGain),
         SetupName::ToggleOutput => of_output(word, SetupRefusal::AlwaysOn),
         SetupName::UrlHandlers => Ok(SetupCommand::Nothing),
+    }
+}
+
+/// The least and the greatest limit of a picture's bytes, as MPD 0.23.12 has them.
+const MIN_LIMIT: u32 = 64;
+
+const MAX_LIMIT: u32 = 8_400_896;
+
+fn limit(word: &[u8]) -> Result<SetupCommand, CommandRefusal>
+    ensures { result ≡ limit_of word.now }
+{
+    match number_to(MAX_LIMIT, word) {
+        Some(limit) if limit >= MIN_LIMIT => Ok(SetupCommand::BinaryLimit(limit)),
+        _ => Err(CommandRefusal::BadArgument(1)),
     }
 }
 

@@ -3,6 +3,7 @@ ghost use Rattle.std.specs.Prelude.{◌≡◌, ◌↔◌, false, IfOk, IsTrue, o
 ghost use Rattle.player_core.specs.declared.playing.PlayState.{PlayState};
 ghost use Rattle.player_core.specs.declared.order.Order.{Order as PlayOrder};
 ghost use Rattle.daemon_core.specs.Orders.{play_order, scan_order};
+ghost use Rattle.daemon_core.specs.Seen.{view_of};
 ghost use Rattle.live_stage.specs.Turns.{RefusesToTell};
 
 use super::Live;
@@ -67,5 +68,13 @@ impl<D: Disk> Live<D> {
         ensures { result ≡ option_map (λ order. order.job) (scan_order self.now.state.machine) }
     {
         self.core.running_job()
+    }
+
+    /// How many bytes of a picture an answer to a client may have. It takes no memory and refuses nothing; of a broken stage it
+    /// tells what was before the fault.
+    pub fn chunk_limit(&self, client: u64) -> u32
+        ensures { result ≡ (view_of self.now.state.views client).limit }
+    {
+        self.core.chunk_limit(client)
     }
 }

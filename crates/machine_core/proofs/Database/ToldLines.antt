@@ -96,9 +96,9 @@ below_told detail s place profile there =
 pub folder_by_uri : (mask : TagMask) (s : SavedState) (place : Place) → s.profile ≡ Named → is_folder s.songs place ≡ true
     → folder_info mask s place ≡ Ok (content_lines mask Named s.songs place ++ [])
 folder_by_uri mask s place profile there =
-    λ i. if there i then Ok (content_lines mask (profile i) s.songs place ++ root_lists (profile i) s.lists place) else Err NoSuchUri
+    λ i. if there i then Ok (content_lines mask (profile i) s.songs place ++ root_lists (profile i) s.changed s.lists place) else Err NoSuchUri
 
 pub folder_told : (mask : TagMask) (s : SavedState) (place : Place) → s.profile ≡ Wide → is_folder s.songs place ≡ true
-    → folder_info mask s place ≡ Ok (content_lines mask Wide s.songs place ++ root_lists s.profile s.lists place)
+    → folder_info mask s place ≡ Ok (content_lines mask Wide s.songs place ++ root_lists s.profile s.changed s.lists place)
 folder_told mask s place profile there =
-    λ i. if there i then Ok (content_lines mask (profile i) s.songs place ++ root_lists s.profile s.lists place) else Err NoSuchUri
+    λ i. if there i then Ok (content_lines mask (profile i) s.songs place ++ root_lists s.profile s.changed s.lists place) else Err NoSuchUri

@@ -23,15 +23,15 @@ use Rattle.stored_lists.specs.Refusal.{Answers}
 use Rattle.stored_lists.specs.Songs.{AreUris, Uris}
 use Rattle.stored_lists.specs.declared.refusal.ListsError.{ListsError}
 use Rattle.machine_core.specs.Changed.{same_lists}
-use Rattle.machine_core.specs.ListMoves.{adds_songs_at, block_moves, moves_songs, of_lists, puts_in, song_moves, together}
+use Rattle.machine_core.specs.ListMoves.{adds_songs_at, block_moves, moves_songs, of_lists, puts_in, together, with_block_at}
 use Rattle.machine_core.specs.Lists.{list_name}
 use Rattle.machine_core.specs.Meaning.{Meant, does, edits, refusal_of_all, says, stands, unless_refused}
 use Rattle.machine_core.specs.Spans.{count_of, span_in, unless_past}
-use Rattle.machine_core.specs.State.{MachineState, shown_of}
+use Rattle.machine_core.specs.State.{MachineState}
 use Rattle.machine_core.specs.Told.{told}
 use Rattle.machine_core.specs.declared.span.Span.{Span}
-use Rattle.machine_core.proofs.ListMoves.{lists_only}
-use Rattle.machine_core.proofs.Lists.Moves.{Brings, moved_all, moves_bring}
+use Rattle.machine_core.proofs.Lists.Moves.{Brings}
+use Rattle.machine_core.proofs.Lists.Whole.{block_brings, no_moves}
 use Rattle.machine_core.proofs.SameParts.{lists_decide}
 
 pub well_named : (name text : List ℕ) → list_name name ≡ Ok text → is_good_name name ≡ true
@@ -111,20 +111,11 @@ span_end (From start) count block is = ends_within start count count block is
 span_end (Between start end) count block is = ends_within start end count block is
 
 -- no song of an empty block goes
-nothing : (on : Bool) (name : List ℕ) (from to : ℕ) (s : SavedState) → refusal_of_all (of_lists (song_moves on name from to 0)) s ≡ None
-nothing true name from to s = refl
-nothing false name from to s = refl
-
-nowhere : (on : Bool) (name : List ℕ) (from to : ℕ) (s : SavedState)
-    → true ≡ same_lists s.lists (after_all (of_lists (song_moves on name from to 0)) s).lists
-nowhere true name from to s = sym ((lists_decide s.lists s.lists).1 refl)
-nowhere false name from to s = sym ((lists_decide s.lists s.lists).1 refl)
-
 pub empty_stays : (name : List ℕ) (block : Span) (to : ℕ) (s : SavedState) → count_of block ≡ 0
     → true ≡ same_lists s.lists (after_all (of_lists (block_moves name block to)) s).lists
 empty_stays name block to s empty =
-    nowhere (nat_lt block.start to) name block.start to s
-    ∙ ap (λ n. same_lists s.lists (after_all (of_lists (song_moves (nat_lt block.start to) name block.start to n)) s).lists) (sym empty)
+    sym (ap (λ ops. same_lists s.lists (after_all (of_lists ops) s).lists) (no_moves name block to empty)
+    ∙ (lists_decide s.lists s.lists).1 refl)
 
 -- none of the ops of a block is refused
 pub block_free : (name : List ℕ) (block : Span) (to count : ℕ) (s : SavedState) → is_good_name name ≡ true
@@ -133,14 +124,12 @@ pub block_free : (name : List ℕ) (block : Span) (to count : ℕ) (s : SavedSta
 block_free name block to count s good long inside fits = of (count_of block) refl (songs_of s.lists name) refl
   where
     of : (n : ℕ) → count_of block ≡ n → (o : Option Uris) → songs_of s.lists name ≡ o
-        → refusal_of_all (of_lists (song_moves (nat_lt block.start to) name block.start to n)) s ≡ None
-    of zero is o found = nothing (nat_lt block.start to) name block.start to s
+        → refusal_of_all (of_lists (block_moves name block to)) s ≡ None
+    of zero is o found = ap (λ ops. refusal_of_all (of_lists ops) s) (no_moves name block to is)
     of (suc n) is (Some songs) found =
         let many : length songs ≡ count = ap length (sym (songs_or_none_present s.lists name songs found)) ∙ long in
-        let brought : Brings (song_moves (nat_lt block.start to) name block.start to (suc n)) name s
-        (moved_all (nat_lt block.start to) songs block.start to (suc n)) =
-        moves_bring (nat_lt block.start to) name block.start to (suc n) s songs good found
-        (omega (arith, is, inside, many)) (omega (arith, is, fits, many)) in
+        let brought : Brings (block_moves name block to) name s (with_block_at songs block to) =
+        block_brings name block to s songs good found (omega (arith, is)) (omega (arith, inside, many)) (omega (arith, fits, many)) in
         brought.free
     of (suc n) is None missing =
         let none : length (songs_or_none s.lists name) ≡ 0 = rw missing refl in
@@ -217,7 +206,3 @@ adds_at_end name rows end m =
 pub puts_none : (name rows : List ℕ) (at end : ℕ) (m : MachineState) → length rows ≡ 0 → puts_in name rows at end m ≡ says [] m
 puts_none name [] at end m none = refl
 puts_none name (row ∷ rows) at end m none = let no : ⊥ = omega (arith, none) in absurd no
-
--- what is shown of the player doesn't hang on the playlists
-pub shown_stays : (ops : List ListOp) (m : MachineState) → shown_of (record m { saved = after_all (of_lists ops) m.saved }) ≡ shown_of m
-shown_stays ops m = ap (λ (s : SavedState). shown_of (record m { saved = s })) (lists_only ops m.saved)

@@ -25,9 +25,9 @@ use Rattle.machine_core.specs.Spans.{count_of}
 use Rattle.machine_core.specs.State.{MachineState}
 use Rattle.machine_core.specs.Told.{told}
 use Rattle.machine_core.specs.declared.span.Span.{Span}
-use Rattle.machine_core.proofs.Lists.Moves.{Brings, found_with, moved_all, moves_bring}
+use Rattle.machine_core.proofs.Lists.Moves.{Brings, found_with, moved_all}
 use Rattle.machine_core.proofs.Lists.Placed.{placed_free, placed_is, placed_lists, placed_ops, placed_refused}
-use Rattle.machine_core.proofs.Lists.Whole.{added_go, block_goes}
+use Rattle.machine_core.proofs.Lists.Whole.{added_go, block_brings}
 use Rattle.machine_core.proofs.SameParts.{lists_decide}
 
 -- ops of which none is refused leave the playlists that they make, also where they aren't made
@@ -60,13 +60,10 @@ block_stands name block to songs m x good found forward inside = of (nat_le to (
     of true fits is =
         let small : to ≤ length songs - count_of block = grind (arith, nat_tests, fits) in
         let within : to + count_of block ≤ length songs = omega (arith, small, forward, inside) in
-        let brought : Brings (block_moves name block to) name m.saved
-        (moved_all (nat_lt block.start to) songs block.start to (count_of block)) =
-        moves_bring (nat_lt block.start to) name block.start to (count_of block) m.saved songs good found
-        (omega (arith, forward, inside)) within in
+        let brought : Brings (block_moves name block to) name m.saved (with_block_at songs block to) =
+        block_brings name block to m.saved songs good found forward inside within in
         ap (λ l. songs_of l name) (together_leaves (block_moves name block to) m x brought.free is ∙ brought.lists)
-        ∙ found_with m.saved.lists name songs (moved_all (nat_lt block.start to) songs block.start to (count_of block)) found
-        ∙ ap Some (block_goes songs block to forward inside within)
+        ∙ found_with m.saved.lists name songs (with_block_at songs block to) found
 
 -- songs that are added stand at their place
 module _ (name : List ℕ) (at : ℕ) (old : Uris) (m : MachineState) (x : Meaning) (found : songs_of m.saved.lists name ≡ Some old)

@@ -3,7 +3,8 @@ use Rattle.std.proofs.Common.{◌≡◌, ℕ, zero, suc, ◌+◌, ◌-◌, ◌<�
 use Rattle.std.proofs.lemmas.List.{append_assoc}
 use Rattle.std.specs.Option.{option_or}
 use Rattle.std.specs.Prelude.{if◌then◌else◌}
-use Rattle.state_codec.specs.Applied.{after, after_all, refusal_of}
+use Rattle.state_codec.specs.Applied.{after, refusal_of}
+use Rattle.state_codec.specs.OpsLists.{lists_edited}
 use Rattle.state_codec.specs.SavedState.{SavedState}
 use Rattle.state_codec.specs.declared.op.Op.{Op}
 use Rattle.state_codec.specs.declared.op.Op.TheVariants.{List as Lists}
@@ -11,7 +12,7 @@ use Rattle.state_codec.specs.declared.op.list_op.ListOp.{ListOp}
 use Rattle.state_codec.specs.declared.op.list_op.ListOp.TheVariants.{Move}
 use Rattle.state_codec.specs.declared.refusal.OpRefusal.{OpRefusal}
 use Rattle.machine_core.specs.ListMoves.{of_lists, song_moves}
-use Rattle.machine_core.specs.ListMovesLeft.{moves_of, rest_of}
+use Rattle.machine_core.specs.ListMovesLeft.{all_edited, moves_of, rest_of}
 use Rattle.machine_core.specs.declared.commands.lists.moving.SongMoves.{SongMoves}
 use Rattle.machine_core.specs.Meaning.{refusal_of_all}
 
@@ -95,8 +96,7 @@ pub first_free : (op : ListOp) (ops all : List ListOp) (s : SavedState) → all 
     → (refusal_of (Lists op) s ≡ None) × (refusal_of_all (of_lists ops) (after (Lists op) s) ≡ None)
 first_free op ops all s is free = one_free_then op ops s (ap (λ l. refusal_of_all (of_lists l) s) (sym is) ∙ free)
 
--- what is made of a state, once the first has gone
-pub first_gone : (op : ListOp) (ops all begun : List ListOp) (s t first : SavedState) → all ≡ op ∷ ops → t ≡ after (Lists op) s
-    → after_all (of_lists all) s ≡ after_all (of_lists begun) first → after_all (of_lists ops) t ≡ after_all (of_lists begun) first
-first_gone op ops all begun s t first is went before =
-    ap (after_all (of_lists ops)) went ∙ ap (λ l. after_all (of_lists l) s) (sym is) ∙ before
+-- what is made of the playlists, once the first has gone
+pub first_edited : (op : ListOp) (ops all begun : List ListOp) (s t first : SavedState) → all ≡ op ∷ ops → t ≡ lists_edited op s
+    → all_edited all s ≡ all_edited begun first → all_edited ops t ≡ all_edited begun first
+first_edited op ops all begun s t first is went before = ap (all_edited ops) went ∙ ap (λ l. all_edited l s) (sym is) ∙ before

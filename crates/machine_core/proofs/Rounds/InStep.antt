@@ -31,7 +31,7 @@ use Rattle.state_codec.specs.OpsQueue.{after_queue, queue_refusal, range}
 use Rattle.state_codec.specs.OpsSettings.{same_flag}
 use Rattle.state_codec.specs.SavedState.{SavedState}
 use Rattle.state_codec.specs.declared.op.Op.{Op}
-use Rattle.state_codec.specs.declared.op.Op.TheVariants.{SetOption, SetVolume, SetOrder, Queue, List as Lists, Sticker, Batch, Place}
+use Rattle.state_codec.specs.declared.op.Op.TheVariants.{SetOption, SetVolume, SetOrder, Queue, List as Lists, Sticker, Batch, Place, Timed}
 use Rattle.state_codec.specs.declared.op.list_op.ListOp.{ListOp}
 use Rattle.state_codec.specs.declared.op.queue_op.QueueOp.{QueueOp}
 use Rattle.state_codec.specs.declared.op.queue_op.QueueOp.TheVariants as queue
@@ -41,7 +41,7 @@ use Rattle.machine_core.specs.Changed.{same_playing}
 use Rattle.machine_core.specs.Command.{meaning}
 use Rattle.machine_core.specs.Followed.{current_row, cut_to, followed, no_block, step_as_they_leave}
 use Rattle.machine_core.specs.Happening.{nothing_happens}
-use Rattle.machine_core.specs.Keeping.{goes_on, if_kept, keeps_place, kept, kept_event, place_ops, when_kept, with_ops}
+use Rattle.machine_core.specs.Keeping.{goes_on, if_kept, keeps, keeps_place, kept, kept_event, place_ops, when_kept, with_ops}
 use Rattle.machine_core.specs.Lists.{replaced}
 use Rattle.machine_core.specs.ListMoves.{of_lists}
 use Rattle.machine_core.specs.Meaning.{Meaning, does, edited, order_ops, refusal_of_all}
@@ -60,7 +60,8 @@ use Rattle.machine_core.specs.declared.steps.PlayerStep.TheVariants.{Resume, Pla
 use Rattle.machine_core.proofs.CommandForms.{Holds, OfForms, Turn, command_so, is_commanded, turned}
 use Rattle.machine_core.proofs.InTurn.{none_refused}
 use Rattle.machine_core.proofs.KeptLaws.{kept_is}
-use Rattle.machine_core.proofs.ListMoves.{lists_only}
+use Rattle.machine_core.proofs.KeptTimes.{times_keep, with_time_op}
+use Rattle.machine_core.proofs.ListMoves.{lists_only, with_lists_of}
 use Rattle.machine_core.proofs.Rounds.Following.{RoundStep}
 use Rattle.machine_core.proofs.Rounds.Kept.{Follows, and_first, at_the_player, few_played, filter_own, filter_short, follows_left}
 use Rattle.machine_core.proofs.Rounds.Kept.{follows_same, left_round, place_comes, same_round, short_place, stays_in_step}
@@ -213,6 +214,7 @@ edit_follows (Sticker op) m fits free other holds step =
     stays_follow m (after_edit (Sticker op) m) holds step refl refl (λ id h. h)
 edit_follows (Batch changes) m fits free other holds step = absurd (cc)
 edit_follows (Place op) m fits free other holds step = absurd (cc)
+edit_follows (Timed seconds) m fits free other holds step = absurd (cc)
 
 -- ---- shuffles
 
@@ -239,8 +241,7 @@ together_follow : (ops : List ListOp) (m : MachineState) → IsSoundMachine m �
     → let x = does [] (of_lists ops) m.player m in AllFollow m x.after
 together_follow ops m holds step =
     subst (λ (s : SavedState). AllFollow m (record m { saved = s })) (sym (lists_only ops m.saved))
-    (stays_follow m (record m { saved = record m.saved { lists = (after_all (of_lists ops) m.saved).lists } }) holds step refl refl
-    (λ id h. h))
+    (stays_follow m (record m { saved = with_lists_of m.saved (after_all (of_lists ops) m.saved) }) holds step refl refl (λ id h. h))
 
 -- ---- steps
 
@@ -404,13 +405,18 @@ forms_follow = record {
   turns = turn_follows;
 }
 
+-- the times of playlists have nothing to do with it
+timed_in_step : (z : Meaning) → IsInStep z.after → let x = with_time_op z in IsInStep x.after
+timed_in_step z step place is = let before = step place is in record { sound = before.sound; here = before.here }
+
 pub command_in_step : (mask : TagMask) (command : Command) (m : MachineState) (x : Meaning) → m.saved.profile ≡ Wide → IsSoundMachine m
     → IsInStep m → kept m (meaning mask command m) ≡ Ok x → IsInStep x.after
 command_in_step mask command m x wide holds step is =
     let y = kept_is m (meaning mask command m) x is in
+    let placed = stays_in_step m y.0.after wide (command_holds mask command m y.0 holds y.1)
+    (subst (λ meant. Holds InStepWith m meant) y.1 (command_so InStepWith forms_follow mask command m) holds step) in
     subst (λ (z : Meaning). IsInStep z.after) y.2
-    (stays_in_step m y.0.after wide (command_holds mask command m y.0 holds y.1)
-    (subst (λ meant. Holds InStepWith m meant) y.1 (command_so InStepWith forms_follow mask command m) holds step))
+    (times_keep (λ (z : Meaning). IsInStep z.after) m (keeps m y.0) placed (λ wide lists changes. timed_in_step (keeps m y.0) placed))
 
 -- ---- events
 

@@ -1,18 +1,16 @@
 -- The ids that a removal takes out of a played list, entry by entry, are those of the entries that leave, each looked for by itself.
 use Rattle.std.proofs.Common.{◌≡◌, ◌≢◌, ℕ, suc, ◌+◌, ◌<◌, Bool, true, false, cond, not, ◌==◌, List, [], ◌∷◌, length, filter, get_or}
-use Rattle.std.proofs.Common.{slice_get, Some, refl, sym, ap, ◌∙◌, arith}
-use Rattle.std.specs.List.{AllByRecursion, position_from}
-use Rattle.std.specs.Option.{option_map_or}
+use Rattle.std.proofs.Common.{refl, sym, ap, ◌∙◌, arith}
+use Rattle.std.specs.List.{AllByRecursion}
 use Rattle.std.proofs.lemmas.Bool.{eqb-true, false≢true, ne_eqb}
-use Rattle.std.proofs.lemmas.Iterator.Adapters.{position_from-zero}
 use Rattle.play_queue.specs.declared.entry.Entry.{Entry}
 use Rattle.play_queue.specs.Entries.{Uris}
 use Rattle.play_queue.specs.Queue.{AllDiffer, ids_of}
 use Rattle.player_core.specs.Place.{id_leaves, without_id}
 use Rattle.player_core.specs.Player.{left_by, without}
-use Rattle.player_core.specs.Reports.{takes_at}
 use Rattle.player_core.specs.Staying.{takes}
 use Rattle.player_core.specs.declared.block.Block.{Block}
+use Rattle.player_core.proofs.LeftIds.{filter_same, goes_from, id_goes}
 use Rattle.machine_core.specs.Sound.{AreOwn}
 use Rattle.machine_core.proofs.Rounds.Following.{without_is}
 use Rattle.machine_core.proofs.Sound.Ids.{own_without}
@@ -30,47 +28,7 @@ own_ids (id ∷ ids) own = (
   own_ids ids (λ i j d below within. own (suc i) (suc j) d (omega (arith, below)) (omega (arith, within))),
 )
 
--- ---- the entry of an id leaves
-
--- of entries whose first one stands at a position
-abbrev goes_from : Block → Uris → ℕ → List Entry → ℕ → Bool
-goes_from block dropped at [] id = false
-goes_from block dropped at (entry ∷ entries) id =
-    cond (entry.id == id) (takes block dropped at entry) (goes_from block dropped (at + 1) entries id)
-
-looked_for : (block : Block) (dropped : Uris) (all entries : List Entry) (at id : ℕ) → ((k : ℕ) → slice_get all (at + k) ≡ slice_get entries k)
-    → option_map_or (takes_at block dropped all) (position_from (λ entry. entry.id == id) at entries) false
-    ≡ goes_from block dropped at entries id
-looked_for block dropped all [] at id stands = refl
-looked_for block dropped all (entry ∷ entries) at id stands =
-    of (entry.id == id) (looked_for block dropped all entries (at + 1) id (λ k. ap (slice_get all) (later k) ∙ stands (suc k)))
-  where
-    later : (k : ℕ) → at + 1 + k ≡ at + suc k
-    later k = omega arith
-
-    here : slice_get all at ≡ Some entry
-    here = let same : at ≡ at + 0 = omega arith in ap (slice_get all) same ∙ stands 0
-
-    of : (b : Bool)
-        → option_map_or (takes_at block dropped all) (position_from (λ e. e.id == id) (at + 1) entries) false
-        ≡ goes_from block dropped (at + 1) entries id
-        → option_map_or (takes_at block dropped all) (cond b (Some at) (position_from (λ e. e.id == id) (at + 1) entries)) false
-        ≡ cond b (takes block dropped at entry) (goes_from block dropped (at + 1) entries id)
-    of true rest = ap (λ found. option_map_or (takes block dropped at) found false) here
-    of false rest = rest
-
-id_goes : (block : Block) (dropped : Uris) (entries : List Entry) (id : ℕ)
-    → id_leaves block dropped entries id ≡ goes_from block dropped 0 entries id
-id_goes block dropped entries id =
-    ap (λ at. option_map_or (takes_at block dropped entries) at false) (position_from-zero (λ (entry : Entry). entry.id == id) entries)
-    ∙ looked_for block dropped entries entries 0 id (λ k. let same : 0 + k ≡ k = omega arith in ap (slice_get entries) same)
-
 -- ---- a filter in two steps
-
-filter_same : (one other : ℕ → Bool) (xs : List ℕ) → ((x : ℕ) → one x ≡ other x) → filter one xs ≡ filter other xs
-filter_same one other [] same = refl
-filter_same one other (x ∷ xs) same =
-    (λ i. cond (same x i) (x ∷ filter_same one other xs same i) (filter_same one other xs same i))
 
 filter_true : (xs : List ℕ) → filter (λ x. true) xs ≡ xs
 filter_true [] = refl

@@ -19,7 +19,7 @@ use Rattle.state_codec.specs.declared.op.queue_op.QueueOp.TheVariants as queue
 use Rattle.state_codec.specs.declared.refusal.OpRefusal.{OpRefusal}
 use Rattle.state_codec.specs.SavedState.{SavedState}
 use Rattle.state_codec.specs.declared.op.Op.{Op}
-use Rattle.state_codec.specs.declared.op.Op.TheVariants.{SetOption, SetVolume, SetOrder, Queue, List as Lists, Sticker, Batch, Place}
+use Rattle.state_codec.specs.declared.op.Op.TheVariants.{SetOption, SetVolume, SetOrder, Queue, List as Lists, Sticker, Batch, Place, Timed}
 use Rattle.machine_core.specs.Command.{meaning}
 use Rattle.machine_core.specs.Followed.{followed}
 use Rattle.machine_core.specs.Happening.{nothing_happens}
@@ -62,6 +62,7 @@ op_place (Lists op) s = refl
 op_place (Sticker op) s = refl
 op_place (Batch changes) s = mapped (place_left no_range (drops_of changes) s.queue.entries) s.place
 op_place (Place op) s = mapped (place_after op) s.place
+op_place (Timed seconds) s = refl
 
 abbrev StaysSo : SavedState → SavedState → Type 0
 StaysSo s t = (t.profile ≡ s.profile) × (is_some t.place ≡ is_some s.place)

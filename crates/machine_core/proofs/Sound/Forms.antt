@@ -24,7 +24,7 @@ use Rattle.state_codec.specs.OpsQueue.{queue_refusal, after_queue}
 use Rattle.state_codec.specs.OpsSettings.{with_setting}
 use Rattle.state_codec.specs.SavedState.{SavedState}
 use Rattle.state_codec.specs.declared.op.Op.{Op}
-use Rattle.state_codec.specs.declared.op.Op.TheVariants.{SetOption, SetVolume, SetOrder, Queue, List as Lists, Sticker, Batch, Place}
+use Rattle.state_codec.specs.declared.op.Op.TheVariants.{SetOption, SetVolume, SetOrder, Queue, List as Lists, Sticker, Batch, Place, Timed}
 use Rattle.state_codec.specs.declared.op.queue_op.QueueOp.{QueueOp}
 use Rattle.state_codec.specs.declared.op.queue_op.QueueOp.TheVariants as queue
 use Rattle.state_codec.specs.declared.op.setting.Setting.{Setting}
@@ -132,6 +132,7 @@ op_sound (Lists op) order m none sound = sound
 op_sound (Sticker op) order m none sound = sound
 op_sound (Batch changes) order m none sound = batch_sound changes order m sound
 op_sound (Place op) order m none sound = sound
+op_sound (Timed seconds) order m none sound = sound
 
 -- ---- steps
 

@@ -18,7 +18,7 @@ use Rattle.song_db.specs.declared.change.RowChange.{RowChange}
 use Rattle.machine_core.specs.Command.{meaning}
 use Rattle.machine_core.specs.Followed.{current_row, entry_row}
 use Rattle.machine_core.specs.Happening.{nothing_happens}
-use Rattle.machine_core.specs.Keeping.{keeps_place, kept, kept_event, resumed_from, resumes, when_kept, when_resumed}
+use Rattle.machine_core.specs.Keeping.{keeps, keeps_place, kept, kept_event, resumed_from, resumes, when_kept, when_resumed}
 use Rattle.machine_core.specs.Meaning.{Meaning}
 use Rattle.machine_core.specs.Reports.{when_broken, when_ended}
 use Rattle.machine_core.specs.Scanning.{when_found}
@@ -28,6 +28,7 @@ use Rattle.machine_core.specs.Steps.{length_of, named_length}
 use Rattle.std.specs.List.{AllByRecursion}
 use Rattle.machine_core.proofs.KeepingLaws.{at_holds, at_sound, kept_holds, kept_sound}
 use Rattle.machine_core.proofs.KeptLaws.{kept_is}
+use Rattle.machine_core.proofs.KeptTimes.{times_keep}
 use Rattle.machine_core.proofs.Sound.Commands.{command_sound, when_broken_sound, when_ended_sound, when_found_sound}
 use Rattle.machine_core.proofs.Sound.Frame.{FrameWithin}
 use Rattle.machine_core.proofs.Sound.Ids.{all_behind, all_without, apart_without, has_here, has_later, own_behind, own_without}
@@ -39,13 +40,21 @@ pub kept_command_sound : (mask : TagMask) (command : Command) (m : MachineState)
     → kept m (meaning mask command m) ≡ Ok x → IsSound x.after
 kept_command_sound mask command m x sound is =
     let y = kept_is m (meaning mask command m) x is in
-    subst (λ (z : Meaning). IsSound z.after) y.2 (kept_sound m y.0.after (command_sound mask command m y.0 sound y.1))
+    let placed = kept_sound m y.0.after (command_sound mask command m y.0 sound y.1) in
+    subst (λ (z : Meaning). IsSound z.after) y.2
+    (times_keep (λ (z : Meaning). IsSound z.after) m (keeps m y.0) placed (λ wide lists changes. placed))
 
 pub kept_command_holds : (mask : TagMask) (command : Command) (m : MachineState) (x : Meaning) → IsSoundMachine m
     → kept m (meaning mask command m) ≡ Ok x → IsSoundMachine x.after
 kept_command_holds mask command m x holds is =
     let y = kept_is m (meaning mask command m) x is in
-    subst (λ (z : Meaning). IsSoundMachine z.after) y.2 (kept_holds m y.0.after (command_holds mask command m y.0 holds y.1))
+    let placed = kept_holds m y.0.after (command_holds mask command m y.0 holds y.1) in
+    subst (λ (z : Meaning). IsSoundMachine z.after) y.2
+    (times_keep (λ (z : Meaning). IsSoundMachine z.after) m (keeps m y.0) placed (λ wide lists changes. record {
+      sound = placed.sound;
+      queue = placed.queue;
+      frame = placed.frame;
+    }))
 
 pub kept_ended_sound : (ticket : ℕ) (m : MachineState) → IsSound m → let h = kept_event m (when_ended ticket m) in IsSound h.after
 kept_ended_sound ticket m sound = let h = when_ended ticket m in kept_sound m h.after (when_ended_sound ticket m sound)

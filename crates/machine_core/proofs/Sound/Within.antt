@@ -38,7 +38,7 @@ use Rattle.state_codec.specs.Applied.{after, after_all, refusal_of}
 use Rattle.state_codec.specs.OpsQueue.{after_queue, queue_refusal}
 use Rattle.state_codec.specs.SavedState.{SavedState}
 use Rattle.state_codec.specs.declared.op.Op.{Op}
-use Rattle.state_codec.specs.declared.op.Op.TheVariants.{SetOption, SetVolume, SetOrder, Queue, List as Lists, Sticker, Batch, Place}
+use Rattle.state_codec.specs.declared.op.Op.TheVariants.{SetOption, SetVolume, SetOrder, Queue, List as Lists, Sticker, Batch, Place, Timed}
 use Rattle.state_codec.specs.declared.op.queue_op.QueueOp.{QueueOp}
 use Rattle.state_codec.specs.declared.op.queue_op.QueueOp.TheVariants as queue
 use Rattle.state_codec.specs.declared.op.setting.Setting.{Setting}
@@ -213,6 +213,7 @@ op_framed (Lists op) order m none holds = holds.frame
 op_framed (Sticker op) order m none holds = holds.frame
 op_framed (Batch changes) order m none holds = batch_framed changes order m
 op_framed (Place op) order m none holds = holds.frame
+op_framed (Timed seconds) order m none holds = holds.frame
 
 queue_none : (op : QueueOp) (order : ℕ) (m : MachineState) → queue_refusal op m.saved ≡ None
     → queue_refusal op (record m.saved { order = order }) ≡ None
@@ -233,6 +234,7 @@ op_queue (Lists op) order m none h = h
 op_queue (Sticker op) order m none h = h
 op_queue (Batch changes) order m none h = batch_stays m.saved.queue (drops_of changes) _ h
 op_queue (Place op) order m none h = h
+op_queue (Timed seconds) order m none h = h
 
 pub edited_holds : (op : Op) (text : List ℕ) (m : MachineState) → refusal_of op m.saved ≡ None → IsSoundMachine m
     → let x = edited op text (followed op m) m in IsSoundMachine x.after

@@ -373,10 +373,12 @@ impl Machine {
         rows: &[SongRow],
     ) -> Result<(), NoMemory>
         ensures { Adds ((flat_map (song_lines mask) (told_songs_in place.entry rows.now) ++ flat_map directory_line (told_folders_in
-            place.entry rows.now)) ++ root_lists self.now.saved.profile self.now.saved.lists place.entry) result out.old out.new }
+            place.entry rows.now)) ++ root_lists self.now.saved.profile self.now.saved.changed
+            self.now.saved.lists place.entry) result out.old out.new }
     {
         write_told_content(out, mask, rows, place)?;
-        write_root_lists(out, self.saved.profile(), self.saved.lists(), place)
+        let saved = &self.saved;
+        write_root_lists(out, saved.profile(), saved.changed(), saved.lists(), place)
     }
 
     fn list_folder_by_uri(

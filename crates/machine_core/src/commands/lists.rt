@@ -208,7 +208,13 @@ impl Machine {
         ensures { Performs (lists_meaning all_in_mask commands.Names self.now) self.now self.now work.old work.new result }
     {
         let mark = work.text.len();
-        let written = write_list_names(&mut work.text, self.saved.profile(), self.saved.lists());
+        let saved = &self.saved;
+        let written = write_list_names(
+            &mut work.text,
+            saved.profile(),
+            saved.changed(),
+            saved.lists(),
+        );
         work.keep(mark, written)
     }
 

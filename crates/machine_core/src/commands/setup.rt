@@ -19,7 +19,7 @@ impl Machine {
         ensures memory { result ≡ Err Failure.NoMemory → setup_takes_memory command ≡ true }
     {
         match command {
-            SetupCommand::Nothing => Ok(()),
+            SetupCommand::BinaryLimit(_) | SetupCommand::Nothing => Ok(()),
             _ => self.tell_setup(command, work),
         }
     }

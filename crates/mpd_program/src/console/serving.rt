@@ -1,5 +1,5 @@
 // One client, from its connect on.
-ghost use Rattle.std.specs.Prelude.{◌≡◌, [], None, OnOk};
+ghost use Rattle.std.specs.Prelude.{◌≡◌, [], None, IfSome, OnOk};
 ghost use Rattle.client_session.specs.Requests.{brought, fault_at, nothing};
 ghost use Rattle.mpd_program.specs.Console.{asked, asked_by, events_of, ComesInTurn, RunsNone};
 ghost use Rattle.mpd_program.specs.Serving.{ending_of, ending_with, fed, IsReady, IsUsable, Serves, ServesInput, StepsTo};
@@ -9,9 +9,12 @@ use super::sending::{Unsent, send_outputs};
 use crate::daemon_clock::DaemonClock;
 use client_session::{Requests, Session};
 use command_text::Request;
-use daemon_core::Event;
+use daemon_core::{Event, PictureTold};
 use disk_model::Disk;
 use live_stage::{Live, LiveError};
+use mio_clients::picture_asked;
+use picture_reader::{OpenPictures, answer_picture};
+use profile::Profile;
 use song_db::LibraryRules;
 use song_files::Folder;
 use std::alloc::Global;
@@ -37,6 +40,27 @@ pub(super) fn ending_with(served: Result<(), Ending>) -> Ending
     match served {
         Ok(()) => Ending::Whole,
         Err(ending) => ending,
+    }
+}
+
+// What a request asks of a picture, read from the folder; none where it asks for none, or where memory is refused.
+fn picture_for<F: Folder>(
+    alloc: Global,
+    client: u64,
+    limit: u32,
+    folder: &mut F,
+    request: &Request,
+) -> Option<PictureTold>
+    ensures limit { IfSome result (λ told. told.ask.limit ≡ limit) }
+{
+    let Ok(Some(mut ask)) = picture_asked(alloc, request) else {
+        return None;
+    };
+    ask.limit = limit;
+    let mut pictures = OpenPictures::new(alloc).ok()?;
+    match answer_picture(alloc, folder, &mut pictures, client, &ask) {
+        Ok(answer) => Some(PictureTold { ask, answer }),
+        Err(_) => None,
     }
 }
 
@@ -87,6 +111,26 @@ impl<D: Disk, F: Folder, W: Write> Service<'_, '_, '_, D, F, W> {
         }
     }
 
+    // Where a profile has pictures, what a request asks of one is read, and comes before it.
+    fn read_picture(&mut self, request: &Request) -> Result<(), Ending>
+        requires { IsReady self.old }
+        ensures served { Serves D.honest D.history D.faults W.contents [] self.old self.new result }
+        ensures idle { OnOk result (RunsNone self.new.live.state.machine.job) }
+        ensures named { self.old.live.state.machine.saved.profile ≡ Profile.Named → self.new ≡ self.old }
+    {
+        match self.live.profile() {
+            Profile::Named => Ok(()),
+            Profile::Wide => {
+                let limit = self.live.chunk_limit(self.client);
+                let read = picture_for(self.alloc, self.client, limit, self.folder, request);
+                let Some(told) = read else {
+                    return Ok(());
+                };
+                self.serve_event(Event::Picture(self.client, told))
+            }
+        }
+    }
+
     // Handles a request, and then reads for the jobs that it began, if it began any.
     fn serve_request(&mut self, request: Request) -> Result<(), Ending>
         requires { IsReady self.old }
@@ -94,9 +138,10 @@ impl<D: Disk, F: Folder, W: Write> Service<'_, '_, '_, D, F, W> {
             self.old self.new result }
         ensures idle { OnOk result (RunsNone self.new.live.state.machine.job) }
     {
-        let event = Event::Request(self.client, request);
+        let client = self.client;
         self.tell_time()?;
-        self.serve_event(event)?;
+        self.read_picture(&request)?;
+        self.serve_event(Event::Request(client, request))?;
         self.serve_jobs()
     }
 

@@ -1,8 +1,7 @@
 // Laws of ops that change nothing, and of what an op can change.
-ghost use Rattle.std.specs.Prelude.{◌≡◌, ◌↔◌, ℕ, true, false, Option, None};
-ghost use Rattle.player_core.specs.Place.{PlaceState};
+ghost use Rattle.std.specs.Prelude.{◌≡◌, ◌↔◌, ℕ, true, false, None};
 ghost use Rattle.state_codec.specs.Applied.{refusal_of, after, changes_nothing};
-ghost use Rattle.state_codec.specs.Laws.{OfEachOp, OfQueueOps, OfListOps, OfStickerOps, OfBatches, but_place, is_batch, is_place};
+ghost use Rattle.state_codec.specs.Laws.{OfEachOp, OfQueueOps, OfListOps, OfStickerOps, OfBatches, but_kept, is_batch, is_behind};
 ghost use Rattle.state_codec.specs.Laws.{LeaveRows};
 ghost use Rattle.state_codec.specs.Laws.{with_parts_of, uses_order};
 ghost use Rattle.state_codec.specs.OpsLists.{leaves_lists, lists_after};
@@ -19,9 +18,9 @@ ghost use Rattle.state_codec.specs.declared.op.Op.TheVariants.{SetOrder};
 pub fn changes_nothing_exactly()
     ensures stays { OfEachOp (λ op s. changes_nothing op s ≡ true → after op s ≡ s) }
     ensures only { OfEachOp (λ op s. is_batch op ≡ false → after op s ≡ s → changes_nothing op s ≡ true) }
-    // What an op other than one of the place changes isn't the player's place alone.
-    ensures apart { (place : Option PlaceState) → OfEachOp (λ op s. is_batch op ≡ false → is_place op ≡ false
-        → after op s ≡ but_place place s → changes_nothing op s ≡ true) }
+    // What an op other than those of the place and of a time changes isn't the player's place and the playlists' times alone.
+    ensures apart { (t : SavedState) → OfEachOp (λ op s. is_batch op ≡ false → is_behind op ≡ false
+        → after op s ≡ but_kept t s → changes_nothing op s ≡ true) }
     ensures batch { OfBatches (λ changes s. (leaves_rows changes s ≡ true) ↔ LeaveRows s.songs changes) }
 {}
 

@@ -11,7 +11,7 @@ use player_core::Place;
 use std::marker::Model;
 use std::slice;
 
-/// What stands in front of the ids.
+/// What stands in front of the ids, if anything does.
 #[derive(Drop)]
 pub(crate) struct PlaceHeadLeft<'a> {
     place: Option<&'a Place>,
@@ -41,10 +41,11 @@ impl<'a> Part for PlaceHeadLeft<'a> {
     fn put_next(&mut self, out: &mut Vec<u8>) -> bool {
         match self.place {
             Some(place) => {
+                let before = out.len();
                 let _played = place.played();
                 put_place_head(out, place);
                 self.place = None;
-                true
+                before < out.len()
             }
             None => false,
         }

@@ -16,6 +16,7 @@ use crate::fields::{ReadError, Reader};
 use crate::layout::Layout;
 use crate::op::{ListOp, Op, OpRanges, QueueOp, RowNumbers, Setting, StickerOp, Text};
 use crate::reading::place::is_place_kind;
+use crate::reading::times::is_time_kind;
 use play_queue::Ranges;
 use std::alloc::Global;
 use stickers::StickerValue;
@@ -268,6 +269,7 @@ impl Reader<'_> {
             10..=16 => Ok(Op::List(self.list_op(alloc, kind)?)),
             17..=19 => Ok(Op::Sticker(self.sticker_op(alloc, kind)?)),
             20 => Ok(Op::Batch(self.changes(alloc, layout.profile)?)),
+            kind if is_time_kind(layout.profile, kind) => Ok(Op::Timed(self.u64()?)),
             kind if is_place_kind(layout.profile, kind) => Ok(Op::Place(self.place_op(kind)?)),
             _ => Err(fault),
         }

@@ -5,18 +5,18 @@ ghost use Rattle.player_core.specs.Place.{longest_round};
 ghost use Rattle.state_codec.specs.Fields.{such, u32_at};
 ghost use Rattle.state_codec.specs.Given.{Gives};
 ghost use Rattle.state_codec.specs.Items.{items_at};
-ghost use Rattle.state_codec.specs.ReadingPlace.{is_next, is_place_kind, is_spot, measured, place_at, place_op_at, round_field_at};
+ghost use Rattle.state_codec.specs.ReadingPlace.{is_next, is_place_kind, is_spot, measured, place_op_at, round_field_at};
 ghost use Rattle.state_codec.specs.ReadingPlace.{spot_at, spot_field_at, state_at};
 
 use crate::fields::{ReadError, Reader};
 use crate::op::PlaceOp;
 use crate::saved::is_start;
-use player_core::{KeptRound, LONGEST_ROUND, Place, PlayState};
+use player_core::{KeptRound, LONGEST_ROUND, PlayState};
 use profile::Profile;
 use std::alloc::Global;
 
 // Where the player was: state, the id of the song and the frame position.
-type Spot = (PlayState, (u32, u64));
+pub(super) type Spot = (PlayState, (u32, u64));
 
 /// Whether this is the number of an op on the place, which the wide profile alone has.
 pub(crate) fn is_place_kind(profile: Profile, kind: u8) -> bool
@@ -76,7 +76,7 @@ impl Reader<'_> {
     }
 
     // Takes the number of the next field, of so many that are left, if it is this one.
-    fn takes_number(&mut self, number: u8, left: u8) -> bool
+    pub(super) fn takes_number(&mut self, number: u8, left: u8) -> bool
         ensures told { result ≡ is_next number left self.old.rest.now }
         ensures rest { self.new.rest.now ≡ if result then drop 1 self.old.rest.now else self.old.rest.now }
         ensures some { IsTrue result → 1 ≤ left }
@@ -156,7 +156,7 @@ impl Reader<'_> {
 
     // Field 2, if it comes next, and how many fields are then left.
     #[tactic(auto, unfolding(crate::specs::ReadingPlace::field_at))]
-    fn spot_field(&mut self, left: u8) -> Result<(Spot, u8), ReadError>
+    pub(super) fn spot_field(&mut self, left: u8) -> Result<(Spot, u8), ReadError>
         ensures { Gives result self.new.rest.now (spot_field_at left self.old.rest.now) }
     {
         if !self.takes_number(2, left) {
@@ -168,7 +168,11 @@ impl Reader<'_> {
 
     // Field 3, if it comes next, and how many fields are then left.
     #[tactic(auto, unfolding(crate::specs::ReadingPlace::field_at))]
-    fn round_field(&mut self, alloc: Global, left: u8) -> Result<(KeptRound, u8), ReadError>
+    pub(super) fn round_field(
+        &mut self,
+        alloc: Global,
+        left: u8,
+    ) -> Result<(KeptRound, u8), ReadError>
         ensures { Gives result self.new.rest.now (round_field_at left self.old.rest.now) }
     {
         if !self.takes_number(3, left) {
@@ -176,19 +180,5 @@ impl Reader<'_> {
         }
         let ids = self.round_value(alloc)?;
         Ok((ids, left - 1))
-    }
-
-    /// The fields behind the parts.
-    #[tactic(auto, unfolding(crate::specs::ReadingPlace::place_at))]
-    pub(crate) fn place(&mut self, alloc: Global) -> Result<Place, ReadError>
-        ensures { Gives result self.new.rest.now (place_at self.old.rest.now) }
-    {
-        let count = self.byte()?;
-        let (spot, left) = self.spot_field(count)?;
-        let (played, left) = self.round_field(alloc, left)?;
-        if left != 0 {
-            return Err(self.fault());
-        }
-        Ok(Place::at(spot.0, spot.1.0, spot.1.1, played))
     }
 }

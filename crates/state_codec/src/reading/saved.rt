@@ -165,6 +165,7 @@ impl Reader<'_> {
             lists,
             stickers,
             place: None,
+            changed: None,
         })
     }
 
@@ -184,7 +185,9 @@ impl Reader<'_> {
         match layout.profile {
             Profile::Named => Ok(parts),
             Profile::Wide => {
-                parts.place = Some(self.place(alloc)?);
+                let (times, place) = self.fields(alloc)?;
+                parts.changed = Some(times);
+                parts.place = Some(place);
                 Ok(parts)
             }
         }

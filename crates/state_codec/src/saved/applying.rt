@@ -3,16 +3,17 @@ ghost use Rattle.std.specs.Prelude.{◌≡◌, Some, None, OnOk, OnErr};
 ghost use Rattle.state_codec.specs.Applied.{refusal_of, after, applied};
 ghost use Rattle.state_codec.specs.Editing.{AnswersApply, IsEdit};
 ghost use Rattle.state_codec.specs.Ops.{IsOp};
-ghost use Rattle.state_codec.specs.OpsLists.{list_refusal};
+ghost use Rattle.state_codec.specs.OpsLists.{list_refusal, lists_edited};
 ghost use Rattle.state_codec.specs.OpsQueue.{queue_refusal};
 ghost use Rattle.state_codec.specs.OpsSettings.{with_setting};
 ghost use Rattle.state_codec.specs.SavedState.{IsSavedState};
 ghost use Rattle.state_codec.specs.Stored.{state_of};
-ghost use Rattle.state_codec.specs.declared.op.Op.TheVariants.{SetOption, SetOrder, Queue, List as Lists};
+ghost use Rattle.state_codec.specs.declared.op.Op.TheVariants.{SetOption, SetOrder, Queue};
 ghost use Rattle.state_codec.specs.declared.op.list_op.ListOp.TheVariants.{Move as MoveSong};
 ghost use Rattle.state_codec.specs.declared.op.queue_op.QueueOp.TheVariants.{Delete, Move};
 
 use super::placing::{change_place, check_place, leave_place};
+use super::timing::tell_times;
 use super::{Saved, SavedParts};
 use crate::op::{Op, Setting, Text};
 use crate::refusal::ApplyError;
@@ -59,10 +60,11 @@ impl Saved {
             .move_range(start as usize, end as usize, to as usize);
     }
 
-    /// Takes the song at position `from` of a playlist out, and puts it back so that it stands at `to`, as the op does. It takes no memory.
+    /// Takes the song at position `from` of a playlist out, and puts it back so that it stands at `to`, as the op does, but for the
+    /// playlist's time, which `put_untimed` changes. It takes no memory.
     pub fn move_song(&mut self, name: &Text, from: u32, to: u32)
         requires { list_refusal (MoveSong name.now from to) self.old ≡ None }
-        ensures { self.new ≡ after (Lists (MoveSong name.now from to)) self.old }
+        ensures { self.new ≡ lists_edited (MoveSong name.now from to) self.old }
     {
         let _ = self
             .parts
@@ -105,6 +107,10 @@ fn apply_to(parts: &mut SavedParts, alloc: Global, op: &Op) -> Result<(), ApplyE
         Op::Place(op) => {
             check_place(parts.profile)?;
             change_place(&mut parts.place, *op);
+        }
+        Op::Timed(seconds) => {
+            check_place(parts.profile)?;
+            tell_times(&mut parts.changed, *seconds);
         }
     }
     Ok(())

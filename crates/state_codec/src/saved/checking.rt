@@ -22,6 +22,7 @@ ghost use Rattle.state_codec.specs.declared.refusal.OpRefusal.TheVariants.{Queue
 use super::batch::check_changes;
 use super::placing::{check_place, leaves_place};
 use super::telling::{adds_nothing, changes_rows, has_no_songs, has_value, is_set};
+use super::timing::leaves_times;
 use super::{Saved, SavedParts};
 use crate::op::{Changes, ListOp, Op, QueueOp, StickerOp};
 use crate::refusal::OpRefusal;
@@ -52,6 +53,10 @@ impl Saved {
             Op::Place(op) => {
                 check_place(parts.profile)?;
                 Ok(!leaves_place(*op, parts.place.as_ref()))
+            }
+            Op::Timed(seconds) => {
+                check_place(parts.profile)?;
+                Ok(!leaves_times(*seconds, parts.changed.as_ref()))
             }
         }
     }
@@ -90,7 +95,7 @@ fn check_queue(parts: &SavedParts, op: &QueueOp) -> Result<bool, OpRefusal>
     }
 }
 
-fn check_list(parts: &SavedParts, op: &ListOp) -> Result<bool, OpRefusal>
+pub(super) fn check_list(parts: &SavedParts, op: &ListOp) -> Result<bool, OpRefusal>
     ensures answer { AnswersCheck (list_refusal op.now (state_of parts.now)) result }
     ensures changes { IfOk result (λ changes. changes ≡ not (leaves_lists op.now (state_of parts.now))) }
 {

@@ -5,14 +5,15 @@ ghost use Rattle.state_codec.specs.Applied.{after_all};
 ghost use Rattle.state_codec.specs.Editing.{IsEdit, ListsEdit};
 ghost use Rattle.state_codec.specs.Numbers.{AreRowNumbers};
 ghost use Rattle.state_codec.specs.Ops.{IsListOp};
-ghost use Rattle.state_codec.specs.OpsLists.{list_refusal, after_list, uris_of};
+ghost use Rattle.state_codec.specs.OpsLists.{list_refusal, after_list, lists_edited, uris_of};
 ghost use Rattle.state_codec.specs.OpsSongs.{uri_at, uris_at};
 ghost use Rattle.state_codec.specs.Replacing.{replace_ops, replace_refusal};
 ghost use Rattle.state_codec.specs.Stored.{state_of};
 ghost use Rattle.state_codec.specs.declared.op.list_op.ListOp.TheVariants.{Save, Add, Rename};
 
 use super::SavedParts;
-use super::checking::check_rows_of;
+use super::checking::{check_list, check_rows_of};
+use super::timing::{change_times, named_by, put_untimed, timed_name};
 use crate::op::{ListOp, RowNumbers};
 use crate::refusal::ApplyError;
 use play_queue::Entries;
@@ -23,6 +24,21 @@ use stored_lists::{ListsError, Songs};
 impl SavedParts {
     pub(super) fn edit_list(&mut self, alloc: Global, op: &ListOp) -> Result<(), ApplyError>
         ensures edit { IsEdit (list_refusal op.now (state_of self.old)) (after_list op.now (state_of self.old))
+            (state_of self.old) (state_of self.new) result }
+        ensures form { OnOk result (IsListOp op.now) }
+    {
+        let changes = check_list(self, op)?;
+        let name = timed_name(alloc, self.changed.as_ref(), named_by(op))?;
+        self.edit_stored(alloc, op)?;
+        if changes {
+            change_times(&mut self.changed, op, name);
+        }
+        Ok(())
+    }
+
+    // The playlists without their times.
+    fn edit_stored(&mut self, alloc: Global, op: &ListOp) -> Result<(), ApplyError>
+        ensures edit { IsEdit (list_refusal op.now (state_of self.old)) (lists_edited op.now (state_of self.old))
             (state_of self.old) (state_of self.new) result }
         ensures form { OnOk result (IsListOp op.now) }
     {
@@ -48,14 +64,14 @@ impl SavedParts {
     }
 
     fn rename_list(&mut self, alloc: Global, from: &str, to: &str) -> Result<(), ApplyError>
-        ensures { IsEdit (list_refusal (Rename from.now to.now) (state_of self.old)) (after_list (Rename from.now to.now)
+        ensures { IsEdit (list_refusal (Rename from.now to.now) (state_of self.old)) (lists_edited (Rename from.now to.now)
             (state_of self.old)) (state_of self.old) (state_of self.new) result }
     {
         told(self.lists.rename(alloc, from, to))
     }
 
     fn save_list(&mut self, alloc: Global, name: &str) -> Result<(), ApplyError>
-        ensures { IsEdit (list_refusal (Save name.now) (state_of self.old)) (after_list (Save name.now) (state_of self.old))
+        ensures { IsEdit (list_refusal (Save name.now) (state_of self.old)) (lists_edited (Save name.now) (state_of self.old))
             (state_of self.old) (state_of self.new) result }
     {
         self.lists.check_save(name, self.queue.len())?;
@@ -71,7 +87,9 @@ impl SavedParts {
     {
         self.lists.check_replace(name, self.queue.len())?;
         let songs = songs_of(alloc, self.queue.entries())?;
+        let listed = timed_name(alloc, self.changed.as_ref(), name)?;
         self.lists.replace(name, songs)?;
+        put_untimed(&mut self.changed, listed, name);
         Ok(())
     }
 
@@ -81,7 +99,7 @@ impl SavedParts {
         name: &str,
         rows: &RowNumbers,
     ) -> Result<(), ApplyError>
-        ensures edit { IsEdit (list_refusal (Add name.now rows.now) (state_of self.old)) (after_list (Add name.now rows.now)
+        ensures edit { IsEdit (list_refusal (Add name.now rows.now) (state_of self.old)) (lists_edited (Add name.now rows.now)
             (state_of self.old)) (state_of self.old) (state_of self.new) result }
         ensures form { AreRowNumbers rows.now }
     {

@@ -4,7 +4,7 @@ use player_core::{Options, Place, Volume};
 use profile::Profile;
 use song_db::SongDb;
 use stickers::Stickers;
-use stored_lists::Lists;
+use stored_lists::{ListTimes, Lists};
 
 /// The parts of a saved state.
 #[derive(Debug, Drop)]
@@ -23,4 +23,6 @@ pub struct SavedParts {
     pub stickers: Stickers,
     /// Where the player was: under the wide profile alone.
     pub place: Option<Place>,
+    /// When playlists were last changed: under the wide profile alone.
+    pub changed: Option<ListTimes>,
 }

@@ -10,8 +10,8 @@ ghost use Rattle.state_codec.specs.SpellingRows.{row_bytes};
 
 use super::bytes::text_len;
 use super::ops::uri_len;
-use super::place::place_len;
 use super::rows::row_len;
+use super::times::all_fields_len;
 use crate::saved::Saved;
 use crate::sealed::checksum_len;
 use profile::Profile;
@@ -102,10 +102,13 @@ fn fields_len(saved: &Saved) -> usize
     ensures len { result ≡ length (fields_of saved.now) }
     ensures within { result < 2 ^ 40 }
 {
-    match saved.place() {
-        Some(place) => place_len(place),
-        None => 0,
-    }
+    let Some(times) = saved.changed() else {
+        return 0;
+    };
+    let Some(place) = saved.place() else {
+        return 0;
+    };
+    all_fields_len(times, place)
 }
 
 /// How many bytes the snapshot of a saved state takes.

@@ -316,6 +316,7 @@ impl Op {
             Op::Sticker(op) => 1 + sticker_len(op),
             Op::Batch(changes) => 1 + changes_len(profile, changes),
             Op::Place(op) => 1 + place_op_len(*op),
+            Op::Timed(_) => 9,
         }
     }
 }
@@ -358,6 +359,10 @@ pub(crate) fn put_reserved(out: &mut Vec<u8>, profile: Profile, op: &Op)
         Op::Place(op) => {
             put_byte(out, place_kind(*op));
             put_place_fields(out, *op);
+        }
+        Op::Timed(seconds) => {
+            put_byte(out, 21);
+            put_u64(out, *seconds);
         }
     }
 }

@@ -101,29 +101,31 @@ fn round_head_len(ids: &[u32]) -> usize
 // How many bytes stand in front of the ids of the round.
 fn place_head_len(place: &Place) -> usize
     ensures len { result ≡ length (place_head place.now) }
-    ensures within { result ≤ 24 }
+    ensures within { result ≤ 23 }
 {
-    1 + spot_len(place) + round_head_len(place.played())
+    spot_len(place) + round_head_len(place.played())
 }
 
 /// How many bytes the fields take.
 pub(crate) fn place_len(place: &Place) -> usize
     ensures len { result ≡ length (place_bytes place.now) }
-    ensures within { result ≤ 262168 }
+    ensures within { result ≤ 262167 }
 {
     place_head_len(place) + 4 * place.played().len()
 }
 
 // How many fields it takes to tell something: none where there is nothing to tell.
-fn told_count(is_nothing: bool) -> u8
+pub(super) fn told_count(is_nothing: bool) -> u8
     ensures count { result ≡ if is_nothing then 0 else 1 }
     ensures within { result ≤ 1 }
 {
     if is_nothing { 0 } else { 1 }
 }
 
-fn field_count(place: &Place) -> u8
-    ensures { result ≡ field_count place.now }
+// How many fields the place takes.
+pub(super) fn field_count(place: &Place) -> u8
+    ensures count { result ≡ field_count place.now }
+    ensures within { result ≤ 2 }
 {
     let spot = told_count(has_no_spot(place));
     let round = told_count(has_no_ids(place.played()));
@@ -169,7 +171,6 @@ pub(crate) fn put_place_head(out: &mut Vec<u8>, place: &Place)
     requires { HasRoom out.old (length (place_head place.now)) }
     ensures { Appends out.old out.new (place_head place.now) }
 {
-    put_byte(out, field_count(place));
     put_spot_field(out, place);
     put_round_head(out, place.played());
 }

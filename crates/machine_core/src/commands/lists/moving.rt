@@ -6,8 +6,8 @@ ghost use Rattle.state_codec.specs.OpsLists.{same_uris};
 ghost use Rattle.stored_lists.specs.Lists.{songs_or_none};
 ghost use Rattle.stored_lists.specs.Limits.{MAX_ENTRIES};
 ghost use Rattle.machine_core.specs.Changed.{same_lists};
-ghost use Rattle.machine_core.specs.ListMoves.{adds_songs, adds_songs_at, block_moves, moves_songs, of_lists, puts_in};
-ghost use Rattle.machine_core.specs.ListMovesLeft.{moves_of, rest_of};
+ghost use Rattle.machine_core.specs.ListMoves.{adds_songs, adds_songs_at, block_moves, moves_songs, of_lists, puts_in, song_moves};
+ghost use Rattle.machine_core.specs.ListMovesLeft.{all_edited, moves_of, rest_of};
 ghost use Rattle.machine_core.specs.Lists.{list_name};
 ghost use Rattle.state_codec.specs.declared.op.list_op.ListOp.TheVariants.{Move};
 ghost use Rattle.machine_core.specs.Meaning.{refusal_of_all};
@@ -74,6 +74,43 @@ impl SongMoves {
     }
 }
 
+// How a block goes to a place of the rest: where it passes fewer songs than it has, those go the other way.
+fn block_moves(block: Span, to: u32) -> SongMoves
+    requires { to + count_of block < 2 ^ 32 }
+    ensures moves { (name : List ℕ) → moves_of name result ≡ block_moves name block to }
+    ensures few { (result.from + result.count < 2 ^ 32) × (result.to + result.count < 2 ^ 32) }
+{
+    let count = block.count();
+    if block.start < to {
+        let passed = to - block.start;
+        if passed < count {
+            song_moves(false, block.end, block.start, passed)
+        } else {
+            song_moves(true, block.start, to, count)
+        }
+    } else {
+        let passed = block.start - to;
+        if passed < count {
+            song_moves(true, to, to + count, passed)
+        } else {
+            song_moves(false, block.start, to, count)
+        }
+    }
+}
+
+fn song_moves(last_first: bool, from: u32, to: u32, count: u32) -> SongMoves
+    ensures moves { (name : List ℕ) → moves_of name result ≡ song_moves last_first name from to count }
+    ensures from { result.from + result.count ≡ from + count }
+    ensures to { result.to + result.count ≡ to + count }
+{
+    SongMoves {
+        last_first,
+        from,
+        to,
+        count,
+    }
+}
+
 // Adds the op of each song.
 fn push_moves(
     alloc: Global,
@@ -99,11 +136,11 @@ fn push_moves(
     Ok(())
 }
 
-// Moves each song. It takes no memory.
+// Moves each song, but leaves the playlist's time as it is. It takes no memory.
 fn move_songs(saved: &mut Saved, name: &Text, moves: SongMoves)
     requires few { (moves.from + moves.count < 2 ^ 32) × (moves.to + moves.count < 2 ^ 32) }
     requires free { refusal_of_all (of_lists (moves_of name.now moves)) saved.old ≡ None }
-    ensures { saved.new ≡ after_all (of_lists (moves_of name.now moves)) saved.old }
+    ensures { saved.new ≡ all_edited (moves_of name.now moves) saved.old }
 {
     let mut left = moves;
     'moves: while left.count > 0 {
@@ -180,7 +217,8 @@ impl Machine {
         }
     }
 
-    // A block of a playlist with so many songs goes to a place of the rest: one change of an op for each of its songs, if it has any.
+    // A block of a playlist with so many songs goes to a place of the rest: one change of an op for each of its songs, or for each that it
+    // passes, if those are fewer.
     pub(super) fn move_block_in_list(
         &mut self,
         alloc: Global,
@@ -202,16 +240,13 @@ impl Machine {
         if self.block_stays(name.as_str(), block, to) {
             return Ok(());
         }
-        let moves = SongMoves {
-            last_first: block.start < to,
-            from: block.start,
-            to,
-            count: block.count(),
-        };
+        let moves = block_moves(block, to);
         let mut ops = Vec::new(alloc);
         push_moves(alloc, name, moves, &mut ops)?;
+        let listed = self.saved.timed_name(alloc, name)?;
         let size = work.admit_all(self.saved.profile(), &ops)?;
         move_songs(&mut self.saved, name, moves);
+        self.saved.put_untimed(name, listed);
         work.push_all(ops, size);
         Ok(())
     }
@@ -279,12 +314,7 @@ impl Machine {
         if rows.len() == 0 {
             return Ok(());
         }
-        let moves = SongMoves {
-            last_first: false,
-            from: end,
-            to: at,
-            count: rows.len() as u32,
-        };
+        let moves = song_moves(false, end, at, rows.len() as u32);
         let add = Op::List(ListOp::Add {
             name: name.try_clone(alloc)?,
             rows,

@@ -13,7 +13,7 @@ of_more P wide bounded has (Err e) h = tt
 
 pub returns-clause-all : goal.returns-clause-all
 returns-clause-all g c =
-    subst (λ (b : Option ℕ). IfOk c.turn_within.result (λ r. IsWithin b (looks_in r.0.items) → IsServedAll r.0.items c.turn_within.new.self.events))
+    subst (λ (b : Option ℕ). IfOk c.turn_within.result (λ r. IsWithin b (looks_in r.0.items) → IsServedAll b r.0.items c.turn_within.new.self.events))
     c.turn_bound.ensures c.turn_within.ensures.all
 
 pub returns-clause-closed : goal.returns-clause-closed

@@ -1,12 +1,9 @@
-use Rattle.std.proofs.Common.{◌≡◌, ◌++◌, ℕ, List, [], Option, length, ap, ◌∙◌}
+use Rattle.std.proofs.Common.{◌≡◌, ◌++◌, List, length, ap, ◌∙◌}
 use Rattle.std.specs.List.{flat_map}
-use Rattle.std.specs.Option.{option_map_or}
-use Rattle.player_core.specs.Place.{PlaceState}
 use Rattle.stickers.specs.Sticker.{Sticker}
 use Rattle.stored_lists.specs.Lists.{Stored}
 use Rattle.state_codec.specs.Spelling.{entry_bytes, head_bytes, playlist_bytes, sticker_bytes}
 use Rattle.state_codec.specs.SpellingFields.{u32_bytes}
-use Rattle.state_codec.specs.SpellingPlace.{place_head}
 use Rattle.state_codec.specs.SpellingRows.{row_bytes}
 use Rattle.state_codec.proofs.PieceLaws.{parts_left}
 use Rattle.state_codec.proofs.pieces.parts_of.Goals as goal
@@ -25,13 +22,10 @@ returns c =
     let sticker_count : c.len-4.result ≡ length s.stickers = cc in
     let stickers : c.new-5.result ≡ flat_map sticker_bytes s.stickers =
     c.new-5.ensures ∙ ap (λ (l : List Sticker). flat_map sticker_bytes l) c.stickers-2.ensures in
-    let front : c.new-6.result ≡ option_map_or place_head s.place [] =
-    c.new-6.ensures ∙ ap (λ (p : Option PlaceState). option_map_or place_head p []) c.place.ensures in
-    let round : c.new-7.result ≡ option_map_or (λ (p : PlaceState). flat_map u32_bytes p.played) s.place [] =
-    c.new-7.ensures ∙ ap (λ (p : Option PlaceState). option_map_or (λ (q : PlaceState). flat_map u32_bytes q.played) p []) c.place-2.ensures in
+    let fields = c.fields_of.ensures in
     (λ i. head i ++ ((u32_bytes (row_count i) ++ rows i)
     ++ ((u32_bytes (entry_count i) ++ entries i)
     ++ ((u32_bytes (list_count i) ++ lists i)
     ++ ((u32_bytes (sticker_count i) ++ stickers i)
-    ++ (front i ++ round i))))))
-    ∙ parts_left s c.key-key.ensures.kept
+    ++ fields i)))))
+    ∙ parts_left s

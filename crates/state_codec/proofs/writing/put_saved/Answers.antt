@@ -13,7 +13,7 @@ put_parts-requires c =
     omega (
       arith,
       c.saved_len.ensures,
-      end_len s.profile s.place (head_bytes s ++ parts_bytes s),
+      end_len s.profile s.changed s.place (head_bytes s ++ parts_bytes s),
       c.in_ok-out.ensures.exact,
       c.in_ok-out.ensures.len,
       c.in_ok-out.out.ok.0,
@@ -25,7 +25,7 @@ put_fields-requires c =
     omega (
       arith,
       c.saved_len.ensures,
-      end_len s.profile s.place (head_bytes s ++ parts_bytes s),
+      end_len s.profile s.changed s.place (head_bytes s ++ parts_bytes s),
       c.in_ok-out.ensures.exact,
       c.in_ok-out.ensures.len,
       c.put_parts.ensures.capacity,
@@ -41,7 +41,7 @@ put_sum-requires-clause-room c =
     omega (
       arith,
       c.saved_len.ensures,
-      end_len s.profile s.place (head_bytes s ++ parts_bytes s),
+      end_len s.profile s.changed s.place (head_bytes s ++ parts_bytes s),
       ap (λ (p : Profile). checksum_len p) c.profile.ensures,
       c.in_ok-out.ensures.exact,
       c.in_ok-out.ensures.len,
@@ -62,9 +62,9 @@ all_put : (s : SavedState) (profile : Profile) (none parts fields all : List ℕ
 all_put s profile none parts fields all empty first second third same =
     let text = head_bytes s ++ parts_bytes s in
     let front : parts ≡ text = first ∙ ap (λ (l : List ℕ). l ++ text) empty in
-    let told : fields ≡ with_fields s.profile s.place text =
-    second ∙ ap (λ (l : List ℕ). l ++ fields_of s) front ∙ sym (fields_behind s.profile s.place text) in
-    third ∙ ap (λ (l : List ℕ). sealed profile l) told ∙ ap (λ (p : Profile). sealed p (with_fields s.profile s.place text)) same
+    let told : fields ≡ with_fields s.profile s.changed s.place text =
+    second ∙ ap (λ (l : List ℕ). l ++ fields_of s) front ∙ sym (fields_behind s.profile s.changed s.place text) in
+    third ∙ ap (λ (l : List ℕ). sealed profile l) told ∙ ap (λ (p : Profile). sealed p (with_fields s.profile s.changed s.place text)) same
 
 pub returns-clause-spelled : goal.returns-clause-spelled
 returns-clause-spelled c =

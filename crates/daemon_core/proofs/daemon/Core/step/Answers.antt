@@ -16,12 +16,13 @@ returns-clause-ok c =
     ((λ i. record {
       machine = taken.machine i;
       clients = taken.watch i;
-      masks = (let m = taken.masks i in m.list.items);
+      views = (let m = taken.views i in m.list.items);
       messages = (c.begin.ensures.messages ∙ ap (λ (t : Talks). t.messages) taken.talks) i;
+      pictures = (let m = taken.pictures i in m.list.items);
     })
     ∙ c.self.view_is) c.in_ok-outcome.ensures.ok)
-    c.tell_waiting.ensures.outputs c.tell_waiting.ensures.watch c.tell_waiting.ensures.machine c.tell_waiting.ensures.masks
-    c.tell_waiting.ensures.talks
+    c.tell_waiting.ensures.outputs c.tell_waiting.ensures.watch c.tell_waiting.ensures.machine c.tell_waiting.ensures.views
+    c.tell_waiting.ensures.talks c.tell_waiting.ensures.pictures
     c.in_ok-outcome.ensures.place
 
 pub returns-clause-rebuilt : goal.returns-clause-rebuilt

@@ -18,8 +18,9 @@ returns-clause-ok c =
     let q : CoreParts = record {
       machine = p.machine;
       watch = c.join.new.self;
-      masks = c.forget.new.self;
+      views = c.forget.new.self;
       talks = c.forget-2.new.self;
+      pictures = c.forget-3.new.self;
       room = c.take.new.self;
     } in
     let h = c.in_ok-handled.handled in
@@ -35,7 +36,8 @@ returns-clause-ok c =
     (does_but (connects_client c.args.client (state_of p) None) q h but (λ i. record {
       machine = p.machine;
       clients = watch i;
-      masks = c.forget.ensures.items i;
+      views = c.forget.ensures.items i;
       messages = c.forget-2.ensures.messages i;
+      pictures = c.forget-3.ensures.items i;
     })
     refl refl refl refl refl (ap (λ (v : Vec ℕ). v.items) c.forget-2.ensures.notified ∙ c.requires.fresh) (joined_ready p q c.args.client c.take.new.self fits watch refl))

@@ -5,13 +5,14 @@ use Rattle.daemon_core.proofs.EndLaws.{ends_so, ready_left}
 use Rattle.daemon_core.proofs.parts.CoreParts.end_request.Goals as goal
 
 pub returns-in-Answered : goal.returns-in-Answered
-returns-in-Answered c = ends_so c.args.client c.args.self.now (record c.args.self.now { masks = c.set.new.self }) c.args.work c.args.end _
+returns-in-Answered c = ends_so c.args.client c.args.self.now (record c.args.self.now { views = c.set.new.self; pictures = c.forget.new.self }) c.args.work c.args.end _
     Answered c.in-Answered.is (record {
       state = λ i. record {
         machine = c.args.self.now.machine;
         clients = c.args.self.now.watch;
-        masks = c.set.ensures i;
+        views = c.set.ensures i;
         messages = c.args.self.now.talks.messages;
+        pictures = c.forget.ensures.items i;
       };
       answer = search rules;
       closes = search rules;

@@ -16,7 +16,7 @@ use Rattle.daemon_core.proofs.parts.CoreParts.end_waiting.Goals as goal
 pub returns-else-is_err-clause-ok : goal.returns-else-is_err-clause-ok
 returns-else-is_err-clause-ok c =
     let p : CoreParts = c.args.self.now in
-    let q : CoreParts = record { machine = p.machine; watch = c.cancel.new.self; masks = p.masks; talks = p.talks; room = p.room } in
+    let q : CoreParts = record p { watch = c.cancel.new.self } in
     let h = c.in_ok-handled.handled in
     let but = subst (λ (b : List ℕ). IsNothingBut (output c.args.client b ∷ []) [] h) c.in_ok-ok.ensures c.in_ok-handled.ensures in
     let watch : q.watch ≡ with_waiting p.watch c.args.client None =
@@ -25,8 +25,9 @@ returns-else-is_err-clause-ok c =
     (does_but (waits_no_more true c.args.client (state_of p)) q h but (λ i. record {
       machine = p.machine;
       clients = watch i;
-      masks = p.masks.list.items;
+      views = p.views.list.items;
       messages = p.talks.messages;
+      pictures = p.pictures.list.items;
     })
     refl refl refl refl refl c.requires.fresh (waiting_ready p q c.args.client None c.requires.ready watch refl))
 
@@ -37,7 +38,13 @@ returns-else-is_noidle-clause-ok c =
     let left = c.leave.ensures in
     subst (λ (b : Bool). Does (waits_no_more b c.args.client (state_of p)) q c.closing.result) (sym c.if-is_noidle.false)
     (does_but (waits_no_more false c.args.client (state_of p)) q c.closing.result c.closing.ensures
-    (λ i. record { machine = left.machine i; clients = left.watch i; masks = left.masks i; messages = left.messages i })
+    (λ i. record {
+      machine = left.machine i;
+      clients = left.watch i;
+      views = left.views i;
+      messages = left.messages i;
+      pictures = left.pictures i;
+    })
     refl refl refl refl refl (ap (λ (v : Vec ℕ). v.items) left.notified ∙ c.requires.fresh) (ready_left p q c.args.client c.requires.ready left.watch
     (subst (λ (r : Room). KeepsRoom p.room r) (sym left.room) c.give_closes-closes.ensures.kept)))
 

@@ -11,8 +11,9 @@ returns c =
     (λ i. record {
       machine = c.leave.ensures.machine i;
       clients = c.leave.ensures.watch i;
-      masks = c.leave.ensures.masks i;
+      views = c.leave.ensures.views i;
       messages = c.leave.ensures.messages i;
+      pictures = c.leave.ensures.pictures i;
     })
     refl refl refl refl refl (ap (λ (v : Vec ℕ). v.items) c.leave.ensures.notified ∙ c.requires.fresh)
     (left_ready c.args.self.now c.leave.new.self c.args.client c.requires.ready c.leave.ensures.watch c.leave.ensures.room)

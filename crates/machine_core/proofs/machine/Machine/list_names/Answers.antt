@@ -11,6 +11,7 @@ returns c =
     let m = c.args.self.now in
     let is = c.self.view_is in
     let profile = c.profile.ensures ∙ ap (λ (n : MachineState). n.saved.profile) is in
+    let changed = c.changed.ensures ∙ ap (λ (n : MachineState). n.saved.changed) is in
     let lists = c.lists.ensures ∙ ap (λ (n : MachineState). n.saved.lists) is in
     reads _ _ m m _ c.args.work.now _ c.keep.new.self _ _ refl refl c.len-mark.ensures refl refl
-    (adds_same _ _ _ _ _ c.write_list_names-written.ensures (λ i. name_lines (profile i) (lists i))) c.keep.ensures
+    (adds_same _ _ _ _ _ c.write_list_names-written.ensures (λ i. name_lines (profile i) (changed i) (lists i))) c.keep.ensures

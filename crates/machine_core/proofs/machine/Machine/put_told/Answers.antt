@@ -11,6 +11,7 @@ pub returns : goal.returns
 returns c =
     let is = c.self.view_is in
     let profile = c.profile.ensures ∙ ap (λ (n : MachineState). n.saved.profile) is in
+    let changed = c.changed.ensures ∙ ap (λ (n : MachineState). n.saved.changed) is in
     let lists = c.lists.ensures ∙ ap (λ (n : MachineState). n.saved.lists) is in
     adds_then _ _ _ _ _ _ _ c.in_ok-write_told_content.ensures
-    (adds_same _ _ _ _ _ c.write_root_lists.ensures (λ i. root_lists (profile i) (lists i) c.args.place))
+    (adds_same _ _ _ _ _ c.write_root_lists.ensures (λ i. root_lists (profile i) (changed i) (lists i) c.args.place))

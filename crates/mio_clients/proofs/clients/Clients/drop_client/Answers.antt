@@ -33,5 +33,5 @@ returns-clause-quiet g c =
     let same = ap (λ (t : ConnectionsState g.row.S.Denot). t.events) c.forget.ensures.same in
     let before : StaysQuiet c.args.self.now.events c.self.inside.connections.events =
     subst (λ (s : ConnectionsState g.row.S.Denot). StaysQuiet c.args.self.now.events s.events) (sym c.self.view_is) c.let_go_of.ensures.quiet in
-    λ n h. subst (λ (t : List ClientEvent). QuietBehind n t) (sym same)
-    (quiet_without c.args.client n c.self.inside.connections.events (before n h))
+    λ waits n h. subst (λ (t : List ClientEvent). QuietBehind waits n t) (sym same)
+    (quiet_without waits c.args.client n c.self.inside.connections.events (before waits n h))

@@ -7,7 +7,7 @@ pub loop-client-init : goal.loop-client-init
 loop-client-init g c = record {
   later = all_itself g.S.Stream.remaining g.S.Stream.contents c.args.self.now;
   gone = λ d h k. k;
-  quiet = λ n h. h;
+  quiet = λ waits n h. h;
 }
 
 pub loop-client-preserved : goal.loop-client-preserved
@@ -21,7 +21,7 @@ loop-client-preserved g c =
       gone = λ d h k. c.loop-client.invariant.gone d (all_then_none rem con now next d no_bytes no_requests c.drop_client.ensures.later h)
           (gone_more rem con next d c.loop-client.rest.now c.in-Some.after.now c.in-Some.client.now c.in-Some.ensures.cases.0
           c.drop_client.ensures.gone c.drop_client.ensures.forgotten h k);
-      quiet = λ n h. c.drop_client.ensures.quiet n (c.loop-client.invariant.quiet n h);
+      quiet = λ waits n h. c.drop_client.ensures.quiet waits n (c.loop-client.invariant.quiet waits n h);
     }
 
 pub returns-clause-gone : goal.returns-clause-gone

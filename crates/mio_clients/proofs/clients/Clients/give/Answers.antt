@@ -29,8 +29,8 @@ returns-then-not-give-clause-quiet g c =
     let same = ap (λ (t : ConnectionsState g.row.S.Denot). t.events) c.forget.ensures.same in
     let before : StaysQuiet c.args.self.now.events c.give.new.self.events =
     subst (λ (s : ConnectionsState g.row.S.Denot). StaysQuiet s.events c.give.new.self.events) c.self.view_is c.give.ensures.quiet in
-    λ n h. subst (λ (t : List ClientEvent). QuietBehind n t) (sym same)
-    (quiet_without c.args.client n c.give.new.self.events (before n h))
+    λ waits n h. subst (λ (t : List ClientEvent). QuietBehind waits n t) (sym same)
+    (quiet_without waits c.args.client n c.give.new.self.events (before waits n h))
 
 pub returns-then-not-give-clause-forgotten : goal.returns-then-not-give-clause-forgotten
 returns-then-not-give-clause-forgotten g c =

@@ -6,7 +6,7 @@ loop-outputs-preserved g c = record {
   later = λ d h. c.loop-outputs.invariant.later d (sent_all_first g.S.Stream.remaining g.S.Stream.contents c.loop-outputs.self
       c.give_outputs.new.self d c.in-Some.outputs.now c.as_slice.result.now c.loop-outputs.rest.now c.in-Some.after.now
       c.in-Some.ensures.cases.0 c.as_slice.ensures c.give_outputs.ensures.later h);
-  quiet = λ n h. c.give_outputs.ensures.quiet n (c.loop-outputs.invariant.quiet n h);
+  quiet = λ waits n h. c.give_outputs.ensures.quiet waits n (c.loop-outputs.invariant.quiet waits n h);
 }
 
 pub returns-clause-later : goal.returns-clause-later

@@ -6,7 +6,7 @@ loop-output-preserved g c = record {
   later = λ d h. c.loop-output.invariant.later d (sent_first g.S.Stream.remaining g.S.Stream.contents c.loop-output.self c.hand_out.new.self d
       c.in-Some.output.now c.loop-output.rest.now c.in-Some.after.now c.as_slice.result.now c.in-Some.ensures.cases.0 c.as_slice.ensures
       c.hand_out.ensures.later h);
-  quiet = λ n h. c.hand_out.ensures.quiet n (c.loop-output.invariant.quiet n h);
+  quiet = λ waits n h. c.hand_out.ensures.quiet waits n (c.loop-output.invariant.quiet waits n h);
 }
 
 pub returns-clause-later : goal.returns-clause-later

@@ -29,7 +29,7 @@ loop-turn-preserved g c =
           c.give_served.ensures.later
           (subst (λ (b : List (List Output)). AllFollow rem con (bytes_in (parts_of {D = g.row.D.Denot} b rest)) no_requests
           c.give_served.new.self d) empty h));
-      quiet = λ n h. c.give_served.ensures.quiet n (c.loop-turn.invariant.quiet n h);
+      quiet = λ waits n h. c.give_served.ensures.quiet waits n (c.loop-turn.invariant.quiet waits n h);
       room = (let one = ap length steps in omega (arith, c.loop-turn.invariant.room, c.push_reserved.ensures.len, c.push_reserved.ensures.capacity, one));
     }
 

@@ -1,4 +1,4 @@
-use Rattle.std.proofs.Common.{ℕ, true, false, zero, sym, subst}
+use Rattle.std.proofs.Common.{ℕ, true, false, zero, sym, subst, is_some}
 use Rattle.mio_clients.specs.Parts.{EndsWithin, IsWithin, looks_in}
 use Rattle.mio_clients.proofs.TurnLaws.{looks_same, serves_twice, serves_as, serves_collected, whole_later, whole_share, whole_refused, whole_told}
 use Rattle.mio_clients.proofs.clients.Clients.serve_all.Goals as goal
@@ -53,7 +53,7 @@ returns-else-goes_on-clause-later g c =
 
 pub returns-then-goes_on-clause-quiet : goal.returns-then-goes_on-clause-quiet
 returns-then-goes_on-clause-quiet g c =
-    λ none within. c.give_outbox.ensures.quiet zero
+    λ none within. c.give_outbox.ensures.quiet (is_some c.args.bound) zero
     (c.serve_in_time-goes_on.ensures.quiet c.if-goes_on.true
     (subst (λ (n : ℕ). IsWithin c.args.bound n)
     (looks_same c.serve_in_time-goes_on.new.parts.items c.push_reserved.new.self.items c.collect-outbox.result c.push_reserved.ensures.items)
@@ -61,7 +61,7 @@ returns-then-goes_on-clause-quiet g c =
 
 pub returns-else-goes_on-clause-quiet : goal.returns-else-goes_on-clause-quiet
 returns-else-goes_on-clause-quiet g c =
-    λ none within. whole_told g.S.Stream.remaining g.S.Stream.contents c.args.self.now c.serve_in_time-goes_on.new.self c.args.parts.now.items
+    λ none within. whole_told g.S.Stream.remaining g.S.Stream.contents (is_some c.args.bound) c.args.self.now c.serve_in_time-goes_on.new.self c.args.parts.now.items
     c.serve_in_time-goes_on.new.parts.items c.args.pass c.serve_in_time-goes_on.result.1 c.requires.empty
     (serves_as g.S.Stream.remaining g.S.Stream.contents c.serve_in_time-goes_on.result.0 false c.args.self.now c.serve_in_time-goes_on.new.self
     c.args.parts.now.items c.serve_in_time-goes_on.new.parts.items c.args.pass c.serve_in_time-goes_on.result.1 c.if-goes_on.false

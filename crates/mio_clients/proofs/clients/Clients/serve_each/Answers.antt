@@ -1,18 +1,17 @@
-use Rattle.std.proofs.Common.{◌≡◌, ℕ, ◌<◌, ◌∙◌, true, false, min, List, Option, sym, subst, ap, is_some, length, length-append, drop, rules, arith, vec_len, vec_capacity}
+use Rattle.std.proofs.Common.{◌≡◌, ℕ, ◌<◌, ◌∙◌, true, false, min, List, Bool, Option, sym, subst, ap, is_some, length, length-append, drop, rules, arith, vec_len, vec_capacity}
 use Rattle.std.specs.Prelude.{IfSome}
 use Rattle.live_stage.specs.Numbers.{greatest}
 use Rattle.mio_clients.specs.Grouping.{TakesMany}
 use Rattle.mio_clients.specs.Connections.{ConnectionsState}
 use Rattle.mio_clients.specs.Parts.{looks_in, Serves}
 use Rattle.mio_clients.specs.Waiting.{QuietBehind}
-use Rattle.mio_clients.proofs.WaitingLaws.{quiet_whole}
 use Rattle.mio_clients.proofs.TurnLaws.{ends_within, looks_more, quiet_within, serves_none, serves_twice, serves_as}
 use Rattle.mio_clients.proofs.clients.Clients.serve_each.Goals as goal
 
 pub left-init : goal.left-init
 left-init g c = record {
   serves = serves_none g.S.Stream.remaining g.S.Stream.contents c.args.self.now c.args.parts.now.items c.args.pass;
-  quiet = subst (λ (n : ℕ). QuietBehind n c.args.self.now.events) (sym c.event_count-left.ensures) (quiet_whole c.args.self.now.events);
+  quiet = subst (λ (t : Bool). QuietBehind t c.servable-left.result c.args.self.now.events) c.is_some-is_bounded.ensures c.servable-left.ensures;
   room = c.requires.room;
   looks = c.looks_in-looks.ensures ∙ ap (λ l. min (looks_in l) greatest) c.as_slice.ensures.value;
   bounded = λ h. h;
@@ -36,7 +35,7 @@ returns-in_default-clause-bounded g c =
 pub returns-clause-quiet : goal.returns-clause-quiet
 returns-clause-quiet g c =
     λ _ within.
-    quiet_within c.left.left c.left.looks (looks_in c.left.parts.items) c.args.bound c.serves_more.result c.left.self.events
+    quiet_within (is_some c.args.bound) c.left.left c.left.looks (looks_in c.left.parts.items) c.args.bound c.serves_more.result c.left.self.events
     c.serves_more.ensures.1 c.left-test.false c.left.invariant.looks within c.left.invariant.quiet
 
 pub left-preserved : goal.left-preserved
@@ -58,9 +57,9 @@ left-preserved g c =
           (serves_twice g.S.Stream.remaining g.S.Stream.contents true c.args.self.now c.left.self c.serve_some-served.new.self
           c.args.parts.now.items c.left.parts.items c.serve_some-served.new.parts.items c.args.pass c.left.pass
           c.serve_some-served.result.1 c.left.invariant.serves serves);
-      quiet = subst (λ (s : ConnectionsState g.row.S.Denot). QuietBehind c.saturating_sub-left.result s.events) (sym same)
-          (subst (λ (n : ℕ). QuietBehind n c.serve_some-served.new.self.events) (sym c.saturating_sub-left.ensures)
-          (takes c.left.left (c.serves_more.ensures.0 c.left-test.true).0 c.left.invariant.quiet));
+      quiet = subst (λ (s : ConnectionsState g.row.S.Denot). QuietBehind (is_some c.args.bound) c.saturating_sub-left.result s.events) (sym same)
+          (subst (λ (n : ℕ). QuietBehind (is_some c.args.bound) n c.serve_some-served.new.self.events) (sym c.saturating_sub-left.ensures)
+          (takes (is_some c.args.bound) c.left.left (c.serves_more.ensures.0 c.left-test.true).0 c.left.invariant.quiet));
       room = room;
       looks = looks_more c.left.parts.items c.serve_some-served.new.parts.items serves.added c.split_at.result.1.now c.left.looks
           c.looks_in-looked.result c.saturating_add-looks.result c.len-from.result serves.parts from

@@ -79,12 +79,12 @@ returns-in-Ok-clause-quiet g c =
     let long = parted_len all (asked_by c.in-Ok.group.turns.items) parts.0 rest parts.1 in
     let left : c.len.result ≡ length rest = search rules in
     let many = c.take_group.ensures.count.0 in
-    λ n some h.
+    λ waits n some h.
     let k : ℕ = n - (c.args.count - c.len.result) in
-    c.drop_each.ensures.quiet k (c.send_given.ensures.quiet k (c.queue_group.ensures.quiet k
-    (quiet_as (n - (length all - length rest)) k c.put_back_all.new.self.events (omega (arith, many, left))
+    c.drop_each.ensures.quiet waits k (c.send_given.ensures.quiet waits k (c.queue_group.ensures.quiet waits k
+    (quiet_as waits (n - (length all - length rest)) k c.put_back_all.new.self.events (omega (arith, many, left))
     (group_quiet c.requires.count.0.0 c.args.self.now c.take_group.new.self c.put_back_all.new.self all rest c.take_group.new.clients.items
-    c.take_group.ensures.takes c.put_back_all.ensures (many ∙ c.requires.count.0.1) (omega (arith, long)) n h))))
+    c.take_group.ensures.takes c.put_back_all.ensures (many ∙ c.requires.count.0.1) (omega (arith, long)) waits n h))))
 
 pub put_back_all-requires-in-Err-clause-known : goal.put_back_all-requires-in-Err-clause-known
 put_back_all-requires-in-Err-clause-known g c =
@@ -128,12 +128,12 @@ returns-then-goes_on_behind-clause-quiet g c =
     let long = parted_len all [] c.in-Err.ensures.front.front rest c.in-Err.ensures.front.parted in
     let left : c.len-in-Err.result ≡ length rest = search rules in
     let many = c.take_group.ensures.count.0 in
-    λ n some h.
+    λ waits n some h.
     let k : ℕ = n - (c.args.count - c.len-in-Err.result) in
-    c.drop_each-in-Err.ensures.quiet k
-    (quiet_as (n - (length all - length rest)) k c.put_back_all-in-Err.new.self.events (omega (arith, many, left))
+    c.drop_each-in-Err.ensures.quiet waits k
+    (quiet_as waits (n - (length all - length rest)) k c.put_back_all-in-Err.new.self.events (omega (arith, many, left))
     (group_quiet c.requires.count.0.0 c.args.self.now c.take_group.new.self c.put_back_all-in-Err.new.self all rest c.take_group.new.clients.items
-    c.take_group.ensures.takes c.put_back_all-in-Err.ensures (many ∙ c.requires.count.0.1) (omega (arith, long)) n h))
+    c.take_group.ensures.takes c.put_back_all-in-Err.ensures (many ∙ c.requires.count.0.1) (omega (arith, long)) waits n h))
 
 pub returns-clause-serves : goal.returns-clause-serves
 returns-clause-serves g c =

@@ -38,7 +38,7 @@ returns-in-None-clause-others g c =
 pub returns-in-None-clause-quiet : goal.returns-in-None-clause-quiet
 returns-in-None-clause-quiet g c =
     let same = ap (λ (t : ConnectionsState g.row.S.Denot). t.events) c.forget.ensures.same in
-    λ n h. subst (λ (t : List ClientEvent). QuietBehind n t) (sym same) (quiet_without c.args.id n c.args.self.now.events h)
+    λ waits n h. subst (λ (t : List ClientEvent). QuietBehind waits n t) (sym same) (quiet_without waits c.args.id n c.args.self.now.events h)
 
 pub returns-in-Some-clause-quiet : goal.returns-in-Some-clause-quiet
 returns-in-Some-clause-quiet g c = quiet_itself c.args.self.now.events

@@ -1,20 +1,11 @@
-use Rattle.std.proofs.Common.{◌≡◌, ℕ, List, Bool, not, filter, sym, ap, subst, ◌∙◌, rules, arith}
-use Rattle.std.proofs.lemmas.Fn.{filter_same}
-use Rattle.player_core.specs.Place.{IsRound, id_leaves}
-use Rattle.player_core.proofs.KeptRounds.{round_filtered}
+use Rattle.std.proofs.Common.{ℕ, List, slice_range, ap, ◌∙◌}
+use Rattle.player_core.specs.Removal.{IsFew, without_ids}
+use Rattle.player_core.proofs.LeftIds.{few_leave}
 use Rattle.player_core.proofs.kept_round.KeptRound.follow_removal.Goals as goal
 
-pub returns : goal.returns
-returns c =
-    let stays : ℕ → Bool = λ id. not (id_leaves c.args.block c.args.dropped.now c.args.entries.now id) in
-    filter_same _ stays _ (λ x b f k. search rules) _ _ c.retain.ensures.filtered
-    ∙ ap (λ (ids : List ℕ). filter stays ids) c.self.view_is
-
-pub invariant_of-self : goal.invariant_of-self
-invariant_of-self c =
-    let stays : ℕ → Bool = λ id. not (id_leaves c.args.block c.args.dropped.now c.args.entries.now id) in
-    let kept : c.retain.new.self.items ≡ filter stays c.self.inside.ids.items =
-    filter_same _ stays _ (λ x b f k. search rules) _ _ c.retain.ensures.filtered in (
-      subst IsRound (sym kept) (round_filtered stays c.self.inside.ids.items c.self.invariant.0),
-      omega (arith, c.retain.ensures.capacity, c.self.invariant.1),
-    )
+pub returns-then-are_few : goal.returns-then-are_few
+returns-then-are_few c =
+    let few : IsFew c.args.block c.args.dropped.now c.args.entries.now = rw c.if-are_few.true at c.are_few.ensures in
+    c.leave_each.ensures
+    ∙ ap (λ (ids : List ℕ). without_ids (slice_range ids c.args.block.start c.args.block.end) c.args.self.now) c.ids.ensures.ids
+    ∙ few_leave c.args.block c.args.dropped.now c.args.entries.now c.args.self.now few c.ids.ensures.own

@@ -9,6 +9,7 @@ invariant_of-result c = rw (
   c.new-2.ensures,
   c.new-3.ensures,
   c.new-4.ensures,
-  c.in_ok-first_place.ensures,
+  c.in_ok-first_place.ensures.place,
+  c.in_ok-first_times.ensures.times,
 )
     (fresh_kept c.args.profile c.args.key c.default-2.result (search rules) (search rules))

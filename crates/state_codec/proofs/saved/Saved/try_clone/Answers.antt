@@ -26,18 +26,21 @@ invariant_of-result c =
     let lists : c.in_ok-try_clone-2.field-0 ≡ s.lists = c.in_ok-try_clone-2.ensures in
     let stickers : c.in_ok-try_clone-3.field-0 ≡ s.stickers = c.in_ok-try_clone-3.ensures in
     let place : c.in_ok-copy_of.field-0 ≡ s.place = c.in_ok-copy_of.ensures ∙ c.as_ref.ensures.value in
+    let changed : c.in_ok-copy_of_times.field-0 ≡ s.changed = c.in_ok-copy_of_times.ensures ∙ c.as_ref-2.ensures.value in
     let same : state_of s ≡ state_of (record s {
       songs = c.in_ok-map_err.field-0;
       queue = c.in_ok-try_clone.field-0;
       lists = c.in_ok-try_clone-2.field-0;
       stickers = c.in_ok-try_clone-3.field-0;
       place = c.in_ok-copy_of.field-0;
+      changed = c.in_ok-copy_of_times.field-0;
     }) = λ i. state_of (record s {
       songs = sym songs i;
       queue = sym queue i;
       lists = sym lists i;
       stickers = sym stickers i;
-      place =
-          sym place i;
+      place = sym place i;
+      changed =
+          sym changed i;
     }) in
     subst IsSavedState same c.self.invariant

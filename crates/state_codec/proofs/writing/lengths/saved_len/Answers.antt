@@ -33,7 +33,7 @@ returns c =
       parts.lists,
       parts.stickers,
       parts.whole,
-      end_len s.profile s.place (head_bytes s ++ parts_bytes s),
+      end_len s.profile s.changed s.place (head_bytes s ++ parts_bytes s),
       c.fields_len.ensures.len,
       rows,
       entries,

@@ -4,8 +4,8 @@ use Rattle.state_codec.specs.OpsPlace.{is_empty, stays_by}
 use Rattle.state_codec.specs.declared.op.place_op.PlaceOp.TheVariants.{Put}
 use Rattle.state_codec.proofs.writing.place.field_count.Goals as goal
 
-pub returns : goal.returns
-returns c =
+pub returns-clause-count : goal.returns-clause-count
+returns-clause-count c =
     let place = c.args.place.now in
     let spot : c.told_count-spot.result ≡ cond (stays_by (Put place.state place.song place.frame) no_place) 0 1 =
     c.told_count-spot.ensures.count ∙ ap (λ (b : Bool). cond {A = ℕ} b 0 1) c.has_no_spot.ensures in

@@ -1,22 +1,13 @@
-use Rattle.std.proofs.Common.{List, ℕ, ◌++◌, length, sym, ap, subst, arith}
+use Rattle.std.proofs.Common.{List, ℕ, length, sym, ap, subst, arith}
 use Rattle.state_codec.specs.Appended.{Appends, HasRoom}
-use Rattle.state_codec.specs.SpellingFields.{byte_bytes}
-use Rattle.state_codec.specs.SpellingPlace.{field_count, round_head, spot_field}
+use Rattle.state_codec.specs.SpellingPlace.{round_head, spot_field}
 use Rattle.state_codec.proofs.RoomLaws.{appends_both, room_behind, room_first}
 use Rattle.state_codec.proofs.writing.place.put_place_head.Goals as goal
-
-pub put_byte-requires : goal.put_byte-requires
-put_byte-requires c =
-    let place = c.args.place.now in
-    room_first c.args.out.now (byte_bytes (field_count place)) (spot_field place ++ round_head place.played) c.requires
 
 pub put_spot_field-requires : goal.put_spot_field-requires
 put_spot_field-requires c =
     let place = c.args.place.now in
-    let count : Appends c.args.out.now c.put_byte.new.out (byte_bytes (field_count place)) =
-    subst (λ (n : ℕ). Appends c.args.out.now c.put_byte.new.out (byte_bytes n)) c.field_count.ensures c.put_byte.ensures in
-    room_first c.put_byte.new.out (spot_field place) (round_head place.played)
-    (room_behind c.args.out.now c.put_byte.new.out (byte_bytes (field_count place)) (spot_field place ++ round_head place.played) c.requires count)
+    room_first c.args.out.now (spot_field place) (round_head place.played) c.requires
 
 pub put_round_head-requires-clause-few : goal.put_round_head-requires-clause-few
 put_round_head-requires-clause-few c = omega (arith, ap length c.played.ensures.ids, c.played.ensures.within.played.few)
@@ -24,22 +15,14 @@ put_round_head-requires-clause-few c = omega (arith, ap length c.played.ensures.
 pub put_round_head-requires-clause-room : goal.put_round_head-requires-clause-room
 put_round_head-requires-clause-room c =
     let place = c.args.place.now in
-    let count : Appends c.args.out.now c.put_byte.new.out (byte_bytes (field_count place)) =
-    subst (λ (n : ℕ). Appends c.args.out.now c.put_byte.new.out (byte_bytes n)) c.field_count.ensures c.put_byte.ensures in
-    let behind = room_behind c.args.out.now c.put_byte.new.out (byte_bytes (field_count place)) (spot_field place ++ round_head place.played)
-    c.requires count in
     subst (λ (ids : List ℕ). HasRoom c.put_spot_field.new.out (length (round_head ids))) (sym c.played.ensures.ids)
-    (room_behind c.put_byte.new.out c.put_spot_field.new.out (spot_field place) (round_head place.played) behind c.put_spot_field.ensures)
+    (room_behind c.args.out.now c.put_spot_field.new.out (spot_field place) (round_head place.played) c.requires c.put_spot_field.ensures)
 
 pub returns : goal.returns
 returns c =
     let place = c.args.place.now in
-    let count : Appends c.args.out.now c.put_byte.new.out (byte_bytes (field_count place)) =
-    subst (λ (n : ℕ). Appends c.args.out.now c.put_byte.new.out (byte_bytes n)) c.field_count.ensures c.put_byte.ensures in
     let round : Appends c.put_spot_field.new.out c.put_round_head.new.out (round_head place.played) =
     subst (λ (ids : List ℕ). Appends c.put_spot_field.new.out c.put_round_head.new.out (round_head ids)) c.played.ensures.ids
     c.put_round_head.ensures in
-    appends_both c.args.out.now c.put_byte.new.out c.put_round_head.new.out (byte_bytes (field_count place))
-    (spot_field place ++ round_head place.played) count
-    (appends_both c.put_byte.new.out c.put_spot_field.new.out c.put_round_head.new.out (spot_field place) (round_head place.played)
-    c.put_spot_field.ensures round)
+    appends_both c.args.out.now c.put_spot_field.new.out c.put_round_head.new.out (spot_field place) (round_head place.played)
+    c.put_spot_field.ensures round

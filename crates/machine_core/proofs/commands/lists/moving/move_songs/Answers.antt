@@ -1,9 +1,8 @@
 use Rattle.std.proofs.Common.{◌≡◌, ◌∷◌, [], ap, sym, ◌∙◌, arith}
-use Rattle.state_codec.specs.Applied.{after_all}
 use Rattle.state_codec.specs.declared.op.list_op.ListOp.TheVariants.{Move}
-use Rattle.machine_core.specs.ListMoves.{of_lists}
-use Rattle.machine_core.specs.ListMovesLeft.{moves_of, rest_of}
-use Rattle.machine_core.proofs.Lists.Left.{first_free, first_gone, none_goes, rest_few}
+use Rattle.machine_core.specs.ListMovesLeft.{all_edited, moves_of, rest_of}
+use Rattle.machine_core.proofs.Lists.Left.{first_edited, first_free, none_goes, rest_few}
+use Rattle.machine_core.proofs.Lists.Timed.{left_free}
 use Rattle.machine_core.proofs.commands.lists.moving.move_songs.Goals as goal
 
 pub move_song-requires : goal.move_song-requires
@@ -23,12 +22,12 @@ moves-preserved c =
     let free = first_free op rest (moves_of name left) c.moves.saved first c.moves.invariant.free in
     record {
       few = rest_few left c.rest-left.result c.rest-left.ensures (omega arith) c.moves.invariant.few;
-      free = rw c.move_song.ensures free.1;
-      after = first_gone op rest (moves_of name left) (moves_of name c.args.moves) c.moves.saved c.move_song.new.self c.args.saved.now first
-          c.move_song.ensures c.moves.invariant.after;
+      free = rw c.move_song.ensures (left_free op rest c.moves.saved free.1);
+      edited = first_edited op rest (moves_of name left) (moves_of name c.args.moves) c.moves.saved c.move_song.new.self c.args.saved.now
+          first c.move_song.ensures c.moves.invariant.edited;
     }
 
 pub returns : goal.returns
 returns c =
     let none : moves_of c.args.name.now c.moves.left ≡ [] = none_goes c.args.name.now c.moves.left (omega arith) in
-    ap (λ l. after_all (of_lists l) c.moves.saved) (sym none) ∙ c.moves.invariant.after
+    ap (λ l. all_edited l c.moves.saved) (sym none) ∙ c.moves.invariant.edited

@@ -5,15 +5,26 @@ use Rattle.mpd_program.proofs.console.serving.Service.serve_request.Goals as goa
 pub tell_time-requires : goal.tell_time-requires
 tell_time-requires g c = c.requires
 
+pub read_picture-requires : goal.read_picture-requires
+read_picture-requires g c =
+    record { usable = usable_on c.in_ok-tell_time.ensures.served c.requires.usable; idle = c.in_ok-tell_time.ensures.idle }
+
 pub serve_event-requires-clause-usable : goal.serve_event-requires-clause-usable
-serve_event-requires-clause-usable g c = usable_on c.in_ok-tell_time.ensures.served c.requires.usable
+serve_event-requires-clause-usable g c =
+    usable_on c.in_ok-read_picture.ensures.served (usable_on c.in_ok-tell_time.ensures.served c.requires.usable)
 
 pub serve_event-requires-clause-turn : goal.serve_event-requires-clause-turn
-serve_event-requires-clause-turn g c = c.in_ok-tell_time.ensures.idle
+serve_event-requires-clause-turn g c = c.in_ok-read_picture.ensures.idle
 
 pub serve_jobs-requires : goal.serve_jobs-requires
 serve_jobs-requires g c =
-    usable_on c.in_ok-serve_event.ensures.served (usable_on c.in_ok-tell_time.ensures.served c.requires.usable)
+    usable_on c.in_ok-serve_event.ensures.served
+    (usable_on c.in_ok-read_picture.ensures.served (usable_on c.in_ok-tell_time.ensures.served c.requires.usable))
+
+pub returns-in_err-read_picture-clause-served : goal.returns-in_err-read_picture-clause-served
+returns-in_err-read_picture-clause-served g c =
+    let p = err_from_is_err_and c.from_residual-in_err-read_picture.result c.from_residual-in_err-read_picture.ensures.1 in
+    rw (p.1, p.2) (serves_on c.in_ok-tell_time.ensures.served (serves_before _ c.in_err-read_picture.ensures.served))
 
 pub returns-in_err-tell_time-clause-served : goal.returns-in_err-tell_time-clause-served
 returns-in_err-tell_time-clause-served g c =
@@ -23,8 +34,10 @@ returns-in_err-tell_time-clause-served g c =
 pub returns-in_err-serve_event-clause-served : goal.returns-in_err-serve_event-clause-served
 returns-in_err-serve_event-clause-served g c =
     let p = err_from_is_err_and c.from_residual-in_err-serve_event.result c.from_residual-in_err-serve_event.ensures.1 in
-    rw (p.1, p.2) (serves_on c.in_ok-tell_time.ensures.served c.in_err-serve_event.ensures.served)
+    rw (p.1, p.2)
+    (serves_on c.in_ok-tell_time.ensures.served (serves_on c.in_ok-read_picture.ensures.served c.in_err-serve_event.ensures.served))
 
 pub returns-clause-served : goal.returns-clause-served
 returns-clause-served g c =
-    serves_on c.in_ok-tell_time.ensures.served (serves_on c.in_ok-serve_event.ensures.served c.serve_jobs.ensures.served)
+    serves_on c.in_ok-tell_time.ensures.served
+    (serves_on c.in_ok-read_picture.ensures.served (serves_on c.in_ok-serve_event.ensures.served c.serve_jobs.ensures.served))

@@ -29,5 +29,6 @@ returns-in_err-add_at-clause-edit c =
       lists = c.args.self.now.lists;
       stickers = c.args.self.now.stickers;
       place = c.args.self.now.place;
+      changed = c.args.self.now.changed;
     })
     c.in_err-add_at.ensures.err)

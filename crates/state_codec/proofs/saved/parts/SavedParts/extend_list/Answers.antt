@@ -29,5 +29,6 @@ returns-in_err-add-clause-edit c =
       lists = all;
       stickers = c.args.self.now.stickers;
       place = c.args.self.now.place;
+      changed = c.args.self.now.changed;
     })
     c.in_err-add.ensures.err)
