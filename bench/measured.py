@@ -8,7 +8,7 @@ import sys
 import time
 
 sys.path.insert(0, f"{os.path.dirname(os.path.dirname(os.path.abspath(__file__)))}/tests/lib")
-from clients import GREETING
+import clients
 from scripts import configuration, wave, write
 from songs import FEW, QUARTER, infos, uri
 
@@ -19,35 +19,22 @@ ADDING = {FEW: ["add few"], QUARTER: ["add few", "add many"], FULL: ["add few", 
 FRAMES = 1_000
 
 
-class Console:
+class Console(clients.Console):
     """A running console. Times are nanoseconds from a request's first byte to its answer's last."""
 
     def __init__(self, program, config):
         begun = time.perf_counter_ns()
-        self.process = subprocess.Popen([program, "console", config], stdin=subprocess.PIPE, stdout=subprocess.PIPE, bufsize=0)
-        self.given, self.written = self.process.stdin.fileno(), self.process.stdout.fileno()
-        if self.read(len(GREETING)) != GREETING:
-            sys.exit("no greeting")
+        super().__init__(program, config)
         self.opening = time.perf_counter_ns() - begun
 
     def piece(self):
-        piece = os.read(self.written, 1 << 20)
-        if not piece:
-            sys.exit("the console ended")
-        return piece
-
-    def read(self, length):
-        """So many bytes."""
-        found = b""
-        while len(found) < length:
-            found += self.piece()
-        return found
+        return os.read(self.process.stdout.fileno(), 1 << 20) or sys.exit("the console ended")
 
     def timed(self, request):
-        """The answer to a request, and its time."""
+        """The bytes of the answer to a request, and its time."""
         line, pieces, tail = request.encode() + b"\n", [], b""
         begun = time.perf_counter_ns()
-        os.write(self.given, line)
+        self.process.stdin.write(line)
         while not is_ended(tail, pieces):
             pieces.append(self.piece())
             tail = tail[-4:] + pieces[-1][-4:]
@@ -57,41 +44,28 @@ class Console:
             sys.exit(f"{request}: {answer.decode()}")
         return answer, taken
 
-    def ask(self, request):
-        return self.timed(request)[0]
-
     def time(self, request):
         return self.timed(request)[1]
-
-    def value(self, request, key):
-        """The value of the first line of this key in the answer."""
-        lines = self.ask(request).decode().splitlines()
-        return next(line.removeprefix(f"{key}: ") for line in lines if line.startswith(f"{key}: "))
 
     def do_all(self, requests, at_once=64):
         """Sends requests that are answered by `OK` alone, some at once."""
         for start in range(0, len(requests), at_once):
             some = requests[start : start + at_once]
-            os.write(self.given, "".join(f"{it}\n" for it in some).encode())
-            if self.read(3 * len(some)) != b"OK\n" * len(some):
-                sys.exit(f"refused, behind {some[0]}")
+            self.send("".join(f"{it}\n" for it in some))
+            for request in some:
+                if self.line() != b"OK":
+                    sys.exit(f"refused: {request}")
 
-    def resident(self):
-        """The resident memory in KiB."""
+    def memory(self, name):
+        """What /proc tells of its memory by this name, in KiB: VmRSS what is resident, VmHWM the most since it began or `forget_peak`."""
         with open(f"/proc/{self.process.pid}/status", encoding="utf-8") as status:
-            return next(int(line.split()[1]) for line in status if line.startswith("VmRSS:"))
-
-    def peak(self):
-        """The most memory that was resident since it began or since `forget_peak`, in KiB."""
-        with open(f"/proc/{self.process.pid}/status", encoding="utf-8") as status:
-            return next(int(line.split()[1]) for line in status if line.startswith("VmHWM:"))
+            return next(int(line.split()[1]) for line in status if line.startswith(f"{name}:"))
 
     def forget_peak(self):
         write(f"/proc/{self.process.pid}/clear_refs", "5")
 
     def end(self):
-        self.process.stdin.close()
-        if self.process.wait() != 0:
+        if super().end() != 0:
             sys.exit("the console ended with a fault")
 
 

@@ -20,6 +20,11 @@ ctypes.CDLL(f"libavutil.so.{av.library_versions['libavutil'][0]}").av_cpu_force_
 # The demuxers of music: none of them opens a second file, as lists of files and of streams do.
 FORMATS = """3gp,aac,ac3,adts,aiff,amr,ape,asf,au,caf,dsf,dts,eac3,flac,iff,m4a,matroska,mov,mp3,mp4,mpc,mpc8,ogg,oma,shn,tak,tta,voc,w64,
 wav,webm,wv,xwma""".replace("\n", "")
+# Of an MP3 file so many frames stand one behind the other, as far as a demuxer looks for them, behind its tag and zeros. Their kilobits a
+# second and their rates by the header's fields (ISO 11172-3, 13818-3): of the first version, and of those of lower rates.
+FRAMES_OF_MP3, LOOKED = 7, 1 << 14
+KILOBITS = [[0, 32, 40, 48, 56, 64, 80, 96, 112, 128, 160, 192, 224, 256, 320], [0, *range(8, 64, 8), *range(64, 161, 16)]]
+RATES = (44_100, 48_000, 32_000)
 # A file is decoded in parts of so many seconds, each from its beginning, or from some seconds before, where a decoder begins anew: so its
 # samples are the same from wherever they are read, and however broken the file is.
 PART, BEFORE = 300, 2
@@ -71,11 +76,40 @@ def stamp_of(path):
     return found.st_mtime_ns, found.st_size, found.st_ino
 
 
+def frame_length(head):
+    """The bytes of a frame of MP3 that has this head; 0 of what is none, or doesn't tell it."""
+    version, layer, bits, rate = head >> 19 & 3, head >> 17 & 3, head >> 12 & 15, head >> 10 & 3
+    if head >> 21 != 0x7FF or version == 1 or layer != 1 or bits in (0, 15) or rate == 3:
+        return 0
+    is_low, is_lowest = version < 3, version == 0
+    return 144_000 * KILOBITS[is_low][bits] // (RATES[rate] >> is_lowest) + (head >> 9 & 1)
+
+
+def is_mp3(path):
+    """Whether it is an MP3 file without doubt, as a demuxer's own look would find, which takes long behind a tag with a picture."""
+    with open(path, "rb") as file:
+        tag = file.read(10)
+        if tag[:3] == b"ID3" and len(tag) == 10:
+            size = sum(byte << shift for byte, shift in zip(tag[6:], (21, 14, 7, 0)))
+            file.seek(10 + size + (10 if tag[5] & 0x10 else 0))
+        else:
+            file.seek(0)
+        data = file.read(LOOKED).lstrip(b"\0")
+    at = 0
+    for _ in range(FRAMES_OF_MP3):
+        length = frame_length(int.from_bytes(data[at : at + 4], "big"))
+        at += length
+        if not length or at > len(data):
+            return False
+    return True
+
+
 def opened(path):
     """A demuxer of a file and the stream of its sound."""
     options = {"format_whitelist": FORMATS, "protocol_whitelist": "file"}
     try:
-        container = av.open(path, metadata_errors="replace", container_options=options)
+        known = "mp3" if is_mp3(path) else None
+        container = av.open(path, format=known, metadata_errors="replace", container_options=options)
     except MemoryError as fault:
         raise Failed("no memory") from fault
     except (av.AVError, ValueError) as fault:

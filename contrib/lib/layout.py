@@ -13,6 +13,8 @@ NAME = "mpd_daemon"
 PORT = 6600
 # The program of the first words of a unit's command.
 COMMAND = re.compile(r"^ExecStart=(\S+)", re.MULTILINE)
+# A variable that a unit sets, and its value.
+VARIABLE = re.compile(r"^Environment=(\w+)=(\S+)$", re.MULTILINE)
 # The Python for which Debian's packages are.
 PYTHON = "/usr/bin/python3"
 # The line of a configuration that names the decoder's socket.
@@ -45,6 +47,11 @@ def text(name):
 
 def is_there(name):
     return os.path.exists(f"{CONTRIB}/{name}")
+
+
+def environment():
+    """This process's environment with what the daemon's unit sets."""
+    return os.environ | dict(VARIABLE.findall(text(f"{NAME}.service")))
 
 
 def has_sound():

@@ -5,7 +5,6 @@ anything is wrong."""
 
 import concurrent.futures
 import inspect
-import itertools
 import os
 import subprocess
 import sys
@@ -43,13 +42,11 @@ def fault_of(program, case, room):
     return None
 
 
-def run(program, cases, alone=()):
-    """Runs them, some of them alone before the others, and prints of each how it went, and the counts; the exit status."""
-    failed, first, others = 0, [it for it in cases if it in alone], [it for it in cases if it not in alone]
+def run(program, cases):
+    """Runs them, and prints of each how it went, and the counts; the exit status."""
+    failed = 0
     with tempfile.TemporaryDirectory(prefix="cases-") as room, concurrent.futures.ThreadPoolExecutor(4) as lanes:
-        look = lambda it: fault_of(program, it, room)
-        # The others begin once the first have ended.
-        for it, fault in zip(first + others, itertools.chain([look(it) for it in first], lanes.map(look, others))):
+        for it, fault in zip(cases, lanes.map(lambda it: fault_of(program, it, room), cases)):
             print(f"{it.__name__}: {fault or 'passed'}", flush=True)
             failed += fault is not None
     print(f"{len(cases) - failed} passed, {failed} failed")

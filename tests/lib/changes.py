@@ -175,15 +175,18 @@ def change(state, draw):
 
 # What plays is lost with the daemon, and what is read changes nothing.
 
+# Within most songs, behind the end of all but long ones, with digits that don't count, and the greatest.
+TIMES = ["0", "0.05", "0.05", "0.25", "0.2345", "0.5", "90", "4294967"]
+
 
 def playing(state, draw):
     """A command of the player."""
     ways = [["play"], ["pause"], ["pause", draw.choice("01")], ["stop"], ["clearerror"], ["currentsong"]]
     if state.state != "stop":
-        ways += [["next"], ["previous"], ["seekcur", draw.choice(["0", "+0.5", "-0.25"])]] * 2
+        ways += [["next"], ["previous"], ["seekcur", draw.choice(["", "+", "-"]) + draw.choice(TIMES)]] * 2
     if state.queue:
         place, number = str(draw.randrange(len(state.queue))), str(draw.choice(state.queue).id)
-        ways += [["play", place], ["playid", number], ["seek", place, "0.05"], ["seekid", number, "1.5"]]
+        ways += [["play", place], ["playid", number], ["seek", place, draw.choice(TIMES)], ["seekid", number, draw.choice(TIMES)]]
     return draw.choice(ways)
 
 

@@ -6,6 +6,7 @@ import resource
 import signal
 import socket
 import subprocess
+import sys
 import threading
 import time
 
@@ -35,6 +36,20 @@ def free_port(host="127.0.0.1"):
 def ran(*words, **how):
     """A program that has ended, with what it wrote."""
     return subprocess.run(words, **{"capture_output": True, "timeout": LIMIT, "check": False, **how})
+
+
+def ran_well(*words, given=b""):
+    """What a program printed that must end well."""
+    done = ran(*words, input=given, timeout=None)
+    if done.returncode:
+        raise Failure(f"{words[:3]}: {done.stderr.decode(errors='replace')[-300:]}")
+    return done.stdout
+
+
+def python_with(*modules):
+    """A Python that has these modules, this one or Debian's; None where there is none."""
+    pythons = (it for it in (sys.executable, "/usr/bin/python3") if os.path.exists(it))
+    return next((it for it in pythons if not ran(it, "-c", f"import {', '.join(modules)}").returncode), None)
 
 
 class Daemon:
@@ -73,7 +88,7 @@ class Daemon:
         wait_for("a daemon that listens", self.is_listening)
         return self
 
-    def begin(self, limits=(), stdout=subprocess.DEVNULL, stderr=subprocess.PIPE, settings=None, ended_by=()):
+    def begin(self, limits=(), stdout=subprocess.DEVNULL, stderr=subprocess.PIPE, settings=None, ended_by=(), umask=-1):
         """Limits are pairs for setrlimit, settings what its environment has more. What it writes to another standard error than a pipe of
         its own isn't taken. These signals end it too, as in a shell."""
 
@@ -84,8 +99,8 @@ class Daemon:
             for what, count in limits:
                 resource.setrlimit(what, (count, resource.getrlimit(what)[1]))
 
-        how = {"cwd": self.folder, "stdin": subprocess.DEVNULL, "stdout": stdout, "stderr": stderr, "restore_signals": False}
-        how["env"] = {**os.environ, **(settings or {})}
+        how = {"cwd": self.folder, "stdin": subprocess.DEVNULL, "stdout": stdout, "stderr": stderr, "umask": umask}
+        how |= {"restore_signals": False, "env": {**os.environ, **(settings or {})}}
         self.process = subprocess.Popen([self.program, "serve", "c.toml"], preexec_fn=limit, **how)
         self.listening = threading.Thread(target=self.listen, args=(self.process.stderr or contextlib.nullcontext(),))
         self.listening.start()

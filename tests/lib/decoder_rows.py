@@ -2,24 +2,34 @@
 contrib/decoder or breaks it."""
 
 import contextlib
+import os
+import select
+import shutil
+import signal
 import socket
 import struct
 import threading
 import time
 
+import decoders
+import under
 from daemons import Daemon, check, make_pipe, put_song, update, wait_for
+from homes import script_of
 from music_rows import WORDS, id3, lines_of
 from scripts import write
-from sounds import LONG, Recorded, Song, check_front, pieces_of, play_to_the_end, runs_of, sound_of
-from waves import chunk, wave_of
+from sounds import LONG, MOST_FRAMES, Recorded, Song, check_front, pieces_of, play_to_the_end, runs_of, sound_of
+from waves import chunk, wave_of, with_picture
 
 OK, NOT_A_SONG, FAILED = 0, 1, 2
 OPEN, READ = 1, 2
 SONG, TITLE = Song("d/a.mp3", 44_100, 1, WORDS), ["Title: Dawn"]
 WAVE = wave_of(WORDS, 44_100, more=chunk("id3 ", id3(TIT2="Dawn")))
+END_OF_DATA = len(wave_of(WORDS, 44_100))
 PLAIN = Song("z.wav", 8_000, 1, WORDS[:900])
 # A song in which a decoder fails behind so many bytes of its WAVE file.
 HEARD, BEHIND = LONG._replace(name="long.mp3"), 100_000
+# Within how many seconds a decoder that doesn't answer has cost what it costs: two, and not twice as many.
+MOST_SECONDS = under.seconds(3.9)
 # What is done in place of the answer, to the request of which kind, and what the log says of the file then: nothing where it was open.
 FAULTS = {
     "silent at the opening": (OPEN, (b"",), "the decoder gave no answer in time"),
@@ -96,11 +106,12 @@ def answer(kind, body, wave):
 
 
 @contextlib.contextmanager
-def decoded(program, folder, told=None):
+def decoded(program, folder, told=None, **settings):
     """A running daemon over a decoder, which has read its music, and a client: a song that the decoder tells, a file that it knows as none,
     a WAVE file, and other files, of which it tells these WAVE files."""
     make_pipe(folder)
-    daemon = Daemon(program, folder, decoder="decoder", form="wave", **{"formats:": '["wave","flac"]', "debug:": "true"}).create()
+    settings = {"formats:": '["wave","flac"]', "debug:": "true", **settings}
+    daemon = Daemon(program, folder, decoder="decoder", form="wave", **settings).create()
     songs = {SONG.name: WAVE, **(told or {})}
     for it in ("d/b.opus", "note.txt", *songs):
         write(f"{folder}/music/{it}", "ID3, and nothing that is a WAVE file")
@@ -220,6 +231,121 @@ def decoder_that_fails_in_a_song(program, folder):
     check("before each", [(whole.startswith(it), 0 < len(it) < BEHIND + (1 << 17)) for it in fronts], [(True, True)] * len(faults))
 
 
+def decoder_that_fails_at_the_player(program, folder):
+    """However it fails as a song is begun, or at the place that is sought in it, the song stops with an error within four seconds, others
+    play, and so does the song once the decoder is well."""
+    told = {HEARD.name: wave_of(HEARD.values, HEARD.rate, HEARD.channels)}
+    with decoded(program, folder, told) as (daemon, decoder, client), daemon.client() as other:
+        recorded = Recorded(f"{folder}/sound")
+        client.do(f"add {HEARD.name}", f"add {PLAIN.name}")
+        for what, (kind, done, _) in FAULTS.items():
+            for begin, behind in (("play 0", 0), ("seek 0 1.9", 2 * BEHIND)) if kind == READ else (("play 0", 0),):
+                decoder.fault, decoder.behind, begun = (kind, done), behind, time.monotonic()
+                other.send(f"{begin}\n")
+                client.do("ping")
+                check(f"{what}: at once", time.monotonic() - begun < 1, True)
+                wait_for("an error", lambda: client.value("status", "error") is not None)
+                check(f"{what}, {begin}: soon", time.monotonic() - begun < MOST_SECONDS, True)
+                state = [client.value("status", it) for it in ("state", "song", "error")]
+                check(f"{what}, {begin}", state, ["stop", "0", f"cannot play {HEARD.name}"])
+                check("what is answered", other.answer(), ["OK"])
+                decoder.fault = None, None
+                play_to_the_end(client, "play 1")
+        play_to_the_end(client, "play 0")
+        daemon.kill()
+    check("at last", runs_of(pieces_of(recorded.end()))[-2:], [sound_of(HEARD), sound_of(PLAIN)])
+
+
+def decoder_that_fails_at_a_picture(program, folder):
+    """However it fails as a picture is read, that is refused within four seconds, nobody else waits, and it is told once the decoder is
+    well."""
+    picture = bytes(range(256)) * 400
+    words = [f"size: {len(picture)}", "type: image/png", "binary: 8192"]
+    with decoded(program, folder, {"cover.mp3": with_picture(WORDS, picture)}, **{"stock_clients:": "true"}) as (daemon, decoder, client):
+        with daemon.client() as asking:
+            for what, (kind, done, _) in FAULTS.items():
+                decoder.fault, begun = (kind, done), time.monotonic()
+                asking.send("readpicture cover.mp3 0\n")
+                client.do("ping")
+                check(f"{what}: at once", time.monotonic() - begun < 1, True)
+                check(what, asking.answer(), ["ACK [5@0] {readpicture} the picture could not be read"])
+                check(f"{what}: soon", time.monotonic() - begun < MOST_SECONDS, True)
+                decoder.fault = None, None
+                asking.send("readpicture cover.mp3 0\n")
+                check("its head", [asking.line().decode() for _ in words], words)
+                wait_for("a chunk", lambda: len(asking.unread) >= 8192 + 4 or bool(take_more(asking)))
+                check("its bytes", asking.unread, picture[:8192] + b"\nOK\n")
+                asking.unread = b""
+
+
+def take_more(client):
+    """Takes what comes next; nothing, so that a wait goes on."""
+    client.unread += client.piece()
+
+
+def decoder_that_accepts_nobody(program, folder):
+    """One whose queue of connections is full costs a file as much as one that doesn't answer, and nothing else."""
+    with decoded(program, folder) as (daemon, decoder, client):
+        decoder.end()
+        os.remove(f"{folder}/decoder")
+        with socket.socket(socket.AF_UNIX) as deaf:
+            deaf.bind(f"{folder}/decoder")
+            deaf.listen(0)
+            waiting = []
+            with contextlib.suppress(BlockingIOError):
+                while True:
+                    waiting.append(socket.socket(socket.AF_UNIX))
+                    waiting[-1].setblocking(False)
+                    waiting[-1].connect(f"{folder}/decoder")
+            begun = time.monotonic()
+            client.do("update", "ping")
+            check("at once", time.monotonic() - begun < 1, True)
+            client.settle()
+            check("two files: soon", time.monotonic() - begun < 2 * MOST_SECONDS, True)
+            check_songs(client, [(SONG, TITLE), (PLAIN, [])])
+            client.do(f"add {SONG.name}", "play")
+            wait_for("an error", lambda: client.value("status", "error") is not None)
+            check("the error", client.value("status", "error"), f"cannot play {SONG.name}")
+            for it in waiting:
+                it.close()
+        os.remove(f"{folder}/decoder")
+        decoder = Decoder(f"{folder}/decoder", decoder.songs)
+        recorded = Recorded(f"{folder}/sound")
+        play_to_the_end(client, "play")
+        daemon.kill()
+    check("the sound", runs_of(pieces_of(recorded.end())), [sound_of(SONG)])
+
+
+def decoder_that_lies_to_the_player(program, folder):
+    """A file that it tells otherwise than to the scan is played as it is told then, or costs itself alone."""
+    lies = {
+        "no WAVE file": (bytes(len(WAVE)), None),
+        "a cut head": (b"RIFF", None),
+        "no rate": (WAVE[:24] + bytes(4) + WAVE[28:], None),
+        "no channels": (WAVE[:22] + bytes(2) + WAVE[24:], None),
+        "other bits": (WAVE[:34] + b"\7\0" + WAVE[36:], None),
+        "another rate": (wave_of(WORDS, 48_000), SONG._replace(rate=48_000)),
+        "fewer samples": (wave_of(WORDS[:500], 44_100), SONG._replace(values=WORDS[:500])),
+        # Up to the end of the piece in which the length ends that the scan was told.
+        "more samples": (wave_of(WORDS * 3, 44_100), SONG._replace(values=(WORDS * 3)[: 2 * MOST_FRAMES])),
+        "more samples than there are": (WAVE[:40] + b"\xfe\xff\xff\x7f" + WAVE[44:END_OF_DATA], SONG),
+        "the truth": (WAVE, SONG),
+    }
+    with decoded(program, folder) as (daemon, decoder, client):
+        recorded = Recorded(f"{folder}/sound")
+        client.do(f"add {SONG.name}", f"add {PLAIN.name}")
+        for what, (wave, song) in lies.items():
+            decoder.songs[SONG.name] = wave
+            client.do("play 0")
+            wait_for("its end", lambda: client.value("status", "state") == "stop")
+            check(what, client.value("status", "error"), None if song else f"cannot play {SONG.name}")
+            play_to_the_end(client, "play 1")
+        daemon.kill()
+    # Of a song that is played the next one is played too.
+    wanted = [sound_of(it) for _, song in lies.values() for it in ([song, PLAIN, PLAIN] if song else [PLAIN])]
+    check("the sound", runs_of(pieces_of(recorded.end())), runs_of(wanted))
+
+
 def decoder_that_lies(program, folder):
     """Bytes that are no WAVE file cost that file alone, which is a song again once they are others."""
     with decoded(program, folder) as (_, decoder, client):
@@ -233,3 +359,71 @@ def decoder_that_lies(program, folder):
         client.do("rescan")
         client.settle()
         check_songs(client, [(SONG, TITLE), (PLAIN, [])])
+
+
+# contrib/decoder itself beside the daemon.
+
+REAL = {"1.mp3": "-c:a libmp3lame -q:a 4", "2.opus": "-c:a libopus", "3.m4a": "-c:a aac"}
+
+
+def decoder_whose_processes_end_or_hang(program, folder):
+    """Where all processes of contrib/decoder that serve are killed in a song, that song alone is lost; where they hang, in a song or a scan,
+    it is as long as they do; where all of it is killed, until it is begun again. Rows stay."""
+    made, music = script_of("tests/decoder"), f"{folder}/music"
+    make_pipe(folder)
+    daemon = Daemon(program, folder, decoder="decoder", form="wave", **{"formats:": '["wave","flac"]', "stock_clients:": "true"}).create()
+    for name, words in REAL.items():
+        made.make(f"{music}/{name}", 48_000, 6, *words.split())
+    whole = {name: made.samples_of(f"{music}/{name}", 48_000, 2) for name in REAL}
+    with daemon.start(), daemon.client() as client, open(f"{folder}/sound", "rb", buffering=0) as pipe:
+
+        def begin():
+            """Plays the first song; what its pipe gave."""
+            client.do("play 0")
+            return pipe.read(1 << 12)
+
+        def rest(front=b""):
+            """What is heard up to the end of the queue."""
+            while client.value("status", "state") != "stop" or select.select([pipe], [], [], 0)[0]:
+                front += pipe.read(1 << 16) if select.select([pipe], [], [], 0.1)[0] else b""
+            return b"".join(data for _, data in pieces_of(front))
+
+        with decoders.Decoder(music, f"{folder}/decoder") as decoder:
+            update(client)
+            client.do(*(f"add {it}" for it in REAL))
+            client.do(*(f"sticker set song {it} k v" for it in REAL))
+            check("undisturbed", rest(begin()) == b"".join(whole.values()), True)
+            front = begin()
+            for it in decoder.processes():
+                os.kill(it, signal.SIGKILL)
+            found = rest(front)
+            behind = whole["2.opus"] + whole["3.m4a"]
+            check("killed in a song", (found.endswith(behind), whole["1.mp3"].startswith(found[: -len(behind)])), (True, True))
+            front = begin()
+            for it in decoder.processes():
+                os.kill(it, signal.SIGSTOP)
+            check("while they hang", whole["1.mp3"].startswith(rest(front)), True)
+            client.do("rescan")
+            client.do("ping")
+            client.settle()
+            for it in decoder.processes():
+                os.kill(it, signal.SIGCONT)
+            check("well again", rest(begin()) == b"".join(whole.values()), True)
+            front = begin()
+            decoder.process.kill()
+            decoder.process.wait()
+            check("killed as a whole", whole["1.mp3"].startswith(rest(front)), True)
+            client.do("rescan")
+            client.settle()
+        check("the rows", client.values("listall", "file"), [*REAL])
+        check("the stickers", [client.value(f"sticker get song {it} k", "sticker") for it in REAL], ["k=v"] * 3)
+        with decoders.Decoder(music, f"{folder}/decoder"):
+            check("begun again", rest(begin()) == b"".join(whole.values()), True)
+
+
+def left_out():
+    """The cases that can't be run here."""
+    if lack := decoders.lacking() or " and ".join(it for it in ("ffmpeg", "sox") if not shutil.which(it)):
+        print(f"rows of contrib/decoder: not run: {lack}")
+        return [decoder_whose_processes_end_or_hang]
+    return []

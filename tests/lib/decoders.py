@@ -10,7 +10,7 @@ import subprocess
 import threading
 
 import under
-from daemons import LIMIT, wait_for
+from daemons import LIMIT, ran_well, wait_for
 from scripts import Failure
 
 ROOT = os.path.dirname(os.path.dirname(os.path.dirname(os.path.abspath(__file__))))
@@ -68,15 +68,14 @@ print(json.dumps([tag.version, texts, [[it.type, it.mime, base64.b64encode(it.da
 
 def lacking():
     """What is missing for a decoder, in words; none where nothing is."""
+    if not os.path.exists(PYTHON):
+        return f"there is no {PYTHON}"
     done = subprocess.run([PYTHON, "-c", "import av, mutagen"], capture_output=True, text=True, check=False)
     return done.stderr.strip().split("\n")[-1] if done.returncode else ""
 
 
 def by_python(script, given=b""):
-    done = subprocess.run([PYTHON, "-c", script], input=given, capture_output=True, check=False)
-    if done.returncode:
-        raise Failure(done.stderr.decode(errors="replace")[-300:])
-    return done.stdout
+    return ran_well(PYTHON, "-c", script, given=given)
 
 
 def tag_files(lines):

@@ -13,7 +13,6 @@ crash."""
 import bisect
 import collections
 import concurrent.futures
-import contextlib
 import itertools
 import os
 import random

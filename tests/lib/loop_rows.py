@@ -11,6 +11,7 @@ next.
 import re
 
 import refused_rows
+import rows
 
 REPORTED = "refused 43 out of memory"
 ENDED_EARLY = "refused 43"
@@ -32,43 +33,11 @@ LOOK = ["connect 4", "turn", "4> status%nidle", "turn", "turn"]
 # The same of clients of the wide profile that say something to one another.
 TALKS = ["2> noidle%nsubscribe a%nidle", "1> subscribe a", "turn", "2> idle", "turn"]
 TALKS_LOOK = ["connect 4", "turn", "4> channels%nsendmessage a y%nstatus%nidle", "turn", "turn"]
-# What each client asks for before the turn: `None` for one that only connects.
-ASKED = [
-    {"1": "ping"},
-    {"1": "status"},
-    {"1": "setvol 40"},
-    {"1": "noidle%nsetvol 40"},
-    {"1": "play"},
-    {"1": "listallinfo"},
-    {"1": "update"},
-    {"1": "close"},
-    {"1": "kill x"},
-    {"1": f"foo{'x' * 5_000}"},
-    {"1": "command_list_ok_begin%nping%nsetvol 40%ncommand_list_end"},
-    {"1": "setvol 40", "3": None},
-    {"3": None},
-    {"1": "ping", "3": None},
-]
-TOLD_OTHERS = [{"1": it} for it in ("sendmessage a x", "sendmessage a x%nreadmessages", "subscribe b", "unsubscribe a", "channels")]
-TOLD_OTHERS += [{"1": "subscribe b", "3": None}, {"1": "command_list_ok_begin%nsendmessage a x%nreadmessages%nsetvol 40%ncommand_list_end"}]
-# The same of a client that sends nothing more.
-ASKED_LAST = {"1": "ping%nping%nping%nstatus%nping"}
-# Lines before the row's, and the row's: calls by themselves, and what threads report.
-CALLS = [
-    (["connect 3"], "accept"),
-    (["1> ping"], "read 0"),
-    ([f"1>- {'x' * 3_000}"], "read 0"),
-    (["1 takes none", "1> status", "turn", "1 takes 7"], "write 0"),
-    (["1 ends"], "turn"),
-    (["1 read 1 fails"], "turn"),
-]
-REPORTS = [
-    (["1> update", "turn", "drop a.wav"], "batch 2"),
-    (["1> update", "turn"], "scanned 2"),
-    (["1> play", "turn", "2> idle", "turn"], "fed 1 8000"),
-    (["1> play", "turn", "2> idle", "turn"], "ended 1"),
-    (["1> play", "turn", "2> idle", "turn"], "broken 1 source"),
-]
+
+
+def asked(*cells):
+    """What each client asks for, by a row; None for one that only connects."""
+    return {it.partition("> ")[0].removeprefix("connect "): it.partition("> ")[2] or None for it in cells}
 
 
 class Told:
@@ -112,7 +81,7 @@ def told(groups):
     return got, other
 
 
-class Turned:
+class Turned(refused_rows.Line):
     """A line for a loop, behind which turns of the loop are made."""
 
     def __init__(self, program, front, line, asked=(), behind=(), is_report=False):
@@ -130,12 +99,6 @@ class Turned:
         for client, text in self.asked.items():
             sends += [f"connect {client}"] if text is None else [f"{client}> {'ping' if client == quiet else text}"]
         return [*self.begun, *sends, *self.behind]
-
-    def run(self, place, lines, refused=0):
-        run = refused_rows.Run(place, self.program, lines, refused)
-        if not refused and (run.has_ended or not run.is_well):
-            raise ValueError(f"{self.name}: with memory enough it ended otherwise: {run.told}")
-        return run
 
     def begin(self, place):
         """Runs it with memory enough; the numbers of its allocations."""
@@ -202,25 +165,20 @@ ANSWERS = [HELLO], ["OK", "ACK [52@0] {ping} out of memory"], ["OK", "ACK [52@0]
 UNSERVED = ["journal refused 7"], ["no thread"]
 
 
-class Lived:
+class Lived(refused_rows.Line):
     """A run of a daemon, from its opening to its end."""
 
-    name = "daemon: ping, setvol 40 and kill"
+    name, front, line = "daemon: ping, setvol 40 and kill", LIFE, "serve"
 
     def __init__(self, program):
         self.program = program
 
-    def run(self, place, lines, refused=0):
-        return refused_rows.Run(place, self.program, lines, refused)
-
-    def begin(self, place):
-        """Runs it with memory enough; the numbers of its allocations."""
-        before, behind = (self.run(place, it).count for it in (LIFE, [*LIFE, "serve"]))
-        return range(before + 1, behind + 1)
+    def prepare(self, place):
+        """What is there is told by the run itself."""
 
     def fault(self, place, number):
         """What is wrong where this allocation is refused, or None; and whether the driver ended itself."""
-        run = self.run(place, [*LIFE, "serve", *LOOKED], number)
+        run = self.run(place, [*LIFE, self.line, *LOOKED], number)
         # A thread that ends late may not make the last of them.
         if not run.is_well:
             return f"it ended otherwise: {run.told}", False
@@ -243,10 +201,11 @@ class Lived:
         return None if any(f"1< volume: {it}" in looked for it in volumes) else f"{served}, and then there is {looked}"
 
 
-def rows(program):
+def all_rows(program):
     """Each row, by its name."""
-    found = [Turned(program, [], "turn", asked) for asked in ASKED] + [Turned(program, TALKS, "turn", asked) for asked in TOLD_OTHERS]
-    found += [Turned(program, [], "turn", ASKED_LAST, ["1 ends"])]
-    found += [Turned(program, front, line) for front, line in CALLS]
-    found += [Turned(program, front, line, is_report=True) for front, line in REPORTS]
+    of = lambda word: rows.table("loop", word)
+    found = [Turned(program, [], "turn", asked(*it)) for it in of("asked")] + [Turned(program, TALKS, "turn", asked(*it)) for it in of("talks")]
+    found += [Turned(program, [], "turn", asked(*it), ["1 ends"]) for it in of("ended")]
+    found += [Turned(program, front, line) for *front, line in of("calls")]
+    found += [Turned(program, front, line, is_report=True) for *front, line in of("reports")]
     return {row.name: row for row in [*found, Lived(program)]}

@@ -4,11 +4,12 @@ to a daemon that is cut."""
 import contextlib
 import os
 import shlex
+import shutil
 import socket
 import subprocess
 import threading
 
-from daemons import LIMIT, Client, free_port, wait_for
+from daemons import LIMIT, Client, free_port, update, wait_for
 from scripts import Failure, write
 
 CONFIGURATION = """\
@@ -17,6 +18,7 @@ playlist_directory "{0}/playlists"
 db_file "{0}/database"
 sticker_file "{0}/stickers"
 bind_to_address "127.0.0.1"
+bind_to_address "{0}/socket"
 port "{1}"
 zeroconf_enabled "no"
 connection_timeout "600"
@@ -30,13 +32,17 @@ audio_output {{
 
 
 class RealMpd:
-    """A running MPD of version 0.23 in a folder of its own with music/, playlists/ and stickers."""
+    """A running MPD of version 0.23 in a folder of its own with music/, playlists/ and stickers, at a port and at `socket`, with further lines
+    in its configuration."""
 
-    def __init__(self, path, folder):
+    def __init__(self, path, folder, more=""):
         self.path, self.folder, self.port, self.process = path, folder, free_port(), None
         for it in ("music", "playlists"):
             os.makedirs(f"{folder}/{it}", exist_ok=True)
-        write(f"{folder}/mpd.conf", CONFIGURATION.format(folder, self.port))
+        self.configure(more)
+
+    def configure(self, more):
+        write(f"{self.folder}/mpd.conf", CONFIGURATION.format(self.folder, self.port) + more)
 
     def __enter__(self):
         with open(f"{self.folder}/mpd.log", "wb") as log:
@@ -70,6 +76,21 @@ class RealMpd:
         if not client.line().startswith(b"OK MPD 0."):
             raise Failure("no greeting of MPD")
         return client
+
+
+@contextlib.contextmanager
+def installed(folder, music):
+    """An MPD that runs over a copy of this music, once it has read it; None where none is installed, which is told."""
+    path = shutil.which("mpd")
+    if not path:
+        print("not beside MPD, without mpd on the path", flush=True)
+        yield None
+        return
+    mpd = RealMpd(path, folder)
+    shutil.copytree(music, f"{folder}/music", dirs_exist_ok=True)
+    with mpd, mpd.client() as client:
+        update(client)
+        yield mpd
 
 
 def hang_up(connection):

@@ -1,5 +1,5 @@
-"""The rows of tests/serve about where the player goes on behind a restart, as it is heard; lib/places.py has kills at any moment,
-lib/images.py power cuts."""
+"""The rows of tests/serve about where the player goes on behind a restart, as it is heard; lib/images.py has power cuts, the simulation lives
+one behind the other."""
 
 import os
 import random

@@ -1,18 +1,27 @@
 """The rows of tests/install about what isn't as it was laid: the drive of a journal is away, its files are empty, a file stands where the
 pipe is to be, a player takes nothing; of `./start`, the units, contrib/install and contrib/sound."""
 
+import array
+import base64
 import errno
 import fcntl
 import os
+import shutil
 import stat
+import statistics
 import subprocess
 import sys
 import threading
 import types
+from unittest import mock
 
-from daemons import LIMIT, check, wait_for
+from clients import Client
+from daemons import LIMIT, check, update, wait_for
+from decoders import PYTHON, lacking, tag_files
 from homes import NAME, ROOT, Home, Service, content, put, run_before, script_of
-from sounds import Sound
+from scripts import write
+from sounds import Recorded, Sound, pieces_of, play_to_the_end, runs_of
+from waves import wave_of
 
 FILES = ("journal_a", "journal_b")
 # What is said of a journal whose drive may be away.
@@ -200,6 +209,19 @@ def daemon_that_runs_on(program, folder):
     check("without one", "runs  " in home.uninstall(), False)
 
 
+def memory_of_answers(program, folder):
+    """As ./start and both units run the daemon, the C library gives back what long answers took: without that it keeps most of it."""
+    layout = script_of("contrib/lib/layout.py")
+    said = [layout.VARIABLE.findall(layout.text(it)) for it in (f"{NAME}.service", f"system/{NAME}.service")]
+    check("both units", (said[0], len(said[0])), (said[1], 1))
+    start, handed = Start(program, folder), {}
+    start.script.program_to_run = lambda _: start.program
+    runs = {"execve": lambda _path, _words, settings: handed.update(settings), "chdir": lambda _: None}
+    with mock.patch.multiple(os, **runs), mock.patch.object(sys, "argv", ["start", "console"]):
+        start.script.main()
+    check("./start", {*said[0]} <= {*handed.items()}, True)
+
+
 # The sound.
 
 
@@ -265,3 +287,164 @@ def player_that_takes_nothing(program, folder):
 def tries(folder):
     """How many players were begun."""
     return content(f"{folder}/tries").count(b"\n") if os.path.exists(f"{folder}/tries") else 0
+
+
+# Music of other formats, by `./start` and the decoder.
+
+# Each song's rate and channels, how ffmpeg makes it of a continuous sound, and the names of its title and artist.
+MADE = {
+    "a/constant.mp3": (44_100, 2, "-c:a libmp3lame -b:a 128k", ("TIT2", "TPE1")),
+    "a/variable.mp3": (44_100, 2, "-c:a libmp3lame -q:a 4", ("TIT2", "TPE1")),
+    "b/music.opus": (48_000, 2, "-c:a libopus -b:a 96k", ("TITLE", "ARTIST")),
+    "b/voice.m4a": (32_000, 1, "-c:a aac -b:a 64k", ("©nam", "©ART")),
+    "c/first.m4a": (44_100, 2, "-c:a aac -b:a 128k", ("©nam", "©ART")),
+    "c/second.m4a": (44_100, 2, "-c:a aac -b:a 128k", ("©nam", "©ART")),
+    "d/vorbis.ogg": (22_050, 1, "-c:a libvorbis -q:a 4", ("TITLE", "ARTIST")),
+    "d/wide.ogg": (48_000, 2, "-c:a libvorbis -q:a 6", ("TITLE", "ARTIST")),
+}
+SECONDS = 3
+# What is cut of one sound, from which frame to which.
+CUT_AT = 60_007
+CUT = {"first part.mp3": (0, CUT_AT), "second part.mp3": (CUT_AT, SECONDS * 44_100)}
+LACK = "python3-av and python3-mutagen (Debian's packages), by which other files than WAVE and FLAC are played"
+# Runs `start` over a player in the folder that is named behind this, by the program named first, with a Python of the decoder.
+STARTING = """\
+import sys
+program, folder, python, lib = sys.argv[1:5]
+sys.path.insert(0, lib)
+from daemons import free_port
+from homes import script_of
+start = script_of("start")
+start.PLAYER, start.CONFIG, start.LOG = folder, f"{folder}/mpd_daemon.toml", f"{folder}/start.log"
+# Its own looks from one port on, and others look beside it.
+start.program_to_run, start.layout.PYTHON, start.free_port = lambda _: program, python, free_port
+sys.argv = ["start", "--silent"]
+start.main()
+"""
+
+
+class Started:
+    """What `./start --silent` runs, over a player in this folder."""
+
+    def __init__(self, program, folder, python):
+        self.folder, words = f"{folder}/player", [sys.executable, "-c", STARTING, program, f"{folder}/player", python]
+        os.makedirs(self.folder, exist_ok=True)
+        with open(f"{folder}/said", "wb") as said:
+            self.process = subprocess.Popen([*words, os.path.dirname(__file__)], stdin=subprocess.DEVNULL, stderr=said)
+
+    def __enter__(self):
+        path = f"{self.folder}/mpd_daemon.socket"
+        wait_for("a daemon that listens", lambda: os.path.exists(path) and self.is_served(path))
+        return Client(path)
+
+    def is_served(self, path):
+        try:
+            Client(path).socket.close()
+        except OSError:
+            return False
+        return True
+
+    def __exit__(self, *_):
+        self.process.terminate()
+        self.process.wait(LIMIT)
+
+
+def decoder_is_lacking():
+    """Whether other formats can't be tried here; why is told."""
+    lack = lacking() or " and ".join(it for it in ("ffmpeg", "sox") if not shutil.which(it))
+    if lack:
+        print(f"songs of other formats: not run: {lack}", flush=True)
+    return bool(lack)
+
+
+def put_made(made, music):
+    """Makes the songs, with a title, an artist and a cover, and the parts of one sound, which are MP3 files of their own."""
+    for name, (rate, channels, words, _) in MADE.items():
+        os.makedirs(os.path.dirname(f"{music}/{name}"), exist_ok=True)
+        made.make(f"{music}/{name}", rate, SECONDS, *["-ac", str(channels)], *words.split())
+    made.make(f"{music}/../source.wav", 44_100, SECONDS, "-c:a", "pcm_s16le")
+    for name, (first, end) in CUT.items():
+        cut = f"atrim=start_sample={first}:end_sample={end},asetpts=N/SR/TB"
+        made.ffmpeg("-i", f"{music}/../source.wav", "-af", cut, *"-c:a libmp3lame -b:a 256k".split(), f"{music}/{name}")
+    pictures = [base64.b64encode(it).decode() for it in (made.FRONT, made.BACK)]
+    tag_files([[f"{music}/{name}", {title: [f"Dawn {name}"], artist: ["Björn Ö"]}, *pictures] for name, (*_, (title, artist)) in MADE.items()])
+
+
+def songs_of_other_formats_started(program, folder):
+    """By `./start` MP3, AAC, Ogg and Opus are found with tags and covers, and heard as ffmpeg decodes them, bit for bit, also from a place
+    that is sought. The parts of one sound have as many frames as were cut, and are as near to it at their seam as elsewhere. The decoder
+    ends with the daemon."""
+    if decoder_is_lacking():
+        return
+    made, music = script_of("tests/decoder"), f"{folder}/player/music"
+    os.makedirs(music)
+    put_made(made, music)
+    forms = {name: (rate, channels) for name, (rate, channels, *_) in MADE.items()} | {it: (44_100, 2) for it in CUT}
+    whole = {name: made.samples_of(f"{music}/{name}", *form) for name, form in forms.items()}
+    with Started(program, folder, PYTHON) as client:
+        update(client)
+        check("the songs", client.values("listall", "file"), sorted(forms, key=lambda it: ("/" in it, it)))
+        for name in MADE:
+            told = {key: client.value(f"find \"(file == '{name}')\"", key) for key in ("Title", "Artist")}
+            check(f"the tags of {name}", told, {"Title": f"Dawn {name}", "Artist": "Björn Ö"})
+            check(f"the cover of {name}", picture_of(client, name), made.FRONT)
+        recorded = Recorded(f"{folder}/player/sound.pipe")
+        play_to_the_end(client, *(f'add "{it}"' for it in forms), "play 0")
+        for name in MADE:
+            play_to_the_end(client, "clear", f"add {name}", "seek 0 1.5")
+    found = runs_of(pieces_of(recorded.end()))
+    sought = [(form, whole[it][3 * form[0] * form[1] :]) for it, form in forms.items() if it in MADE]
+    wanted = runs_of([*((forms[it], whole[it]) for it in forms), *sought])
+    check("the forms", [it for it, _ in found], [it for it, _ in wanted])
+    check("which runs are as ffmpeg has them", [one == other for one, other in zip(found, wanted)], [True] * len(found))
+    check("as many frames as were cut", [len(whole[it]) // 4 for it in CUT], [end - first for first, end in CUT.values()])
+    seam, all_of_it = errors_of(b"".join(whole[it] for it in CUT), content(f"{folder}/player/source.wav")[-4 * 3 * 44_100 :])
+    check("at the seam", seam < 2 * all_of_it, True)
+    wait_for("the decoder's end", lambda: not os.path.exists(f"{folder}/player/decoder.socket"))
+
+
+def errors_of(data, source):
+    """How far these samples are from their source, about the first part's end and on the whole."""
+    apart = [abs(one - other) for one, other in zip(array.array("h", data), array.array("h", source), strict=True)]
+    seam = apart[2 * (CUT_AT - 1_000) : 2 * (CUT_AT + 1_000)]
+    return statistics.mean(seam), statistics.mean(apart)
+
+
+def picture_of(client, name):
+    """The bytes of a small picture."""
+    client.send(f'readpicture "{name}" 0\n')
+    told = dict(client.line().split(b": ", 1) for _ in range(3))
+    count = int(told[b"binary"])
+    while len(client.unread) < count + 4:
+        client.unread += client.piece()
+    picture, rest, client.unread = client.unread[:count], client.unread[count : count + 4], client.unread[count + 4 :]
+    check("its head and its end", (told[b"size"], told[b"type"], rest), (b"%d" % count, b"image/png", b"\nOK\n"))
+    return picture
+
+
+def song_that_plays_on_by_a_decoder(program, folder):
+    """With `resume = "playing"` one that the decoder reads plays on where `./start` is begun again, also where the decoder takes its time."""
+    if decoder_is_lacking():
+        return
+    os.makedirs(f"{folder}/player/music")
+    script_of("tests/decoder").make(f"{folder}/player/music/a.mp3", 44_100, 10, "-c:a", "libmp3lame")
+    config = f"{folder}/player/{NAME}.toml"
+    with Started(program, folder, PYTHON) as client:
+        update(client)
+        client.do("add a.mp3", "play", "seekcur 3")
+    put(config, content(config).decode().replace('resume = "paused"', 'resume = "playing"'))
+    put(f"{folder}/slow", f'#!/bin/sh\ncase "$1" in */decoder) sleep 2 ;; esac\nexec {PYTHON} "$@"\n', 0o755)
+    with Started(program, folder, f"{folder}/slow") as client:
+        check("what it does", [client.value("status", it) for it in ("state", "song", "error")], ["play", "0", None])
+        check("where", float(client.value("status", "elapsed")) >= 3, True)
+
+
+def start_without_a_decoder(program, folder):
+    """Where the packages of the decoder are missing, that is told, and everything else is served."""
+    write(f"{folder}/player/music/a.wav", wave_of(range(1_000)))
+    with Started(program, folder, "/bin/false") as client:
+        update(client)
+        check("the songs", client.values("listall", "file"), ["a.wav"])
+    told = content(f"{folder}/said").decode()
+    check("what is told", [it for it in told.splitlines() if it.startswith("MISSING:")], [f"MISSING:  {LACK}"])
+    check("which music", "WAVE and FLAC files go into" in told, True)
