@@ -135,8 +135,10 @@ def finding(state, draw):
     place = [it for place in place_for(len(state.queue), draw) for it in ("position", place)]
     ways = [[draw.choice(["findadd", "searchadd"]), *filters(state, draw), *parts, *place]]
     name = draw.choice(PLAYLISTS)
-    if len(state.playlists.get(name, ())) < MOST_ENTRIES:
-        ways.append(["searchaddpl", name, *filters(state, draw), *(parts if state.is_wide else [])])
+    count = len(state.playlists.get(name, ()))
+    if count < MOST_ENTRIES:
+        at_place = ["position", str(draw.randint(0, count))] if state.is_wide and draw.random() < 0.6 else []
+        ways.append(["searchaddpl", name, *filters(state, draw), *(parts if state.is_wide else []), *at_place])
     return draw.choice(ways)
 
 

@@ -126,6 +126,11 @@ class Music:
             self.put(uri, draw.choice([80, 8001, 16000]), draw.choice(["", "One", f"Take {draw.randrange(1000)}"]))
 
 
+def kept(state):
+    """All of it that is kept, to be told from other states."""
+    return state.seen(), state.stamps, state.next_id, state.order_number, state.kept
+
+
 class Front:
     """What is sent to a program that may end at any moment: the states from the one before the first request on, and the answers; a batch
     of a scan has none. Where they are told apart, each change is to a state that wasn't there before."""
@@ -208,6 +213,12 @@ class Front:
             if not is_whole(answer := client.answered()):
                 raise ConnectionResetError("an answer was cut off")
             self.take(answer)
+
+    def is_record(self, place):
+        """Whether the state at this place is that behind a record: some command of the request, or the batch, changed something."""
+        before, after, commands = self.states[place - 1], self.states[place], self.commands[place - 1]
+        states = [before, *(state for state, _ in before.each(commands)), after]
+        return any(kept(one) != kept(other) for one, other in zip(states, states[1:]))
 
     def changes(self, first, end):
         """How many of the requests from the one to before the other changed what is kept."""

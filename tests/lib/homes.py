@@ -106,13 +106,16 @@ def settings_of(unit):
     return found
 
 
-def run_before(unit, folder, root):
-    """Runs what a unit has before its daemon, in this folder, with the files below this root; what that told."""
+def run_before(unit, folder, root, word=""):
+    """Runs what a unit has before its daemon, where it has this word, in this folder, with the files below this root; what that told."""
     told = ""
     for line in settings_of(unit).get("ExecStartPre", ()):
-        line = line.lstrip("-").replace("/usr/local/bin/", f"{root}/usr/local/bin/").replace("/etc/", f"{root}/etc/")
+        if word not in line:
+            continue
+        may_fail, line = line.startswith("-"), line.lstrip("-")
+        line = line.replace("/usr/local/bin/", f"{root}/usr/local/bin/").replace("/etc/", f"{root}/etc/")
         done = subprocess.run(shlex.split(line), cwd=folder, capture_output=True, text=True, timeout=LIMIT, umask=0o007, check=False)
-        if done.returncode:
+        if done.returncode and not may_fail:
             raise Failure(f"{line}: status {done.returncode}, {done.stderr}")
         told += done.stdout + done.stderr
     return told

@@ -13,6 +13,7 @@ crash."""
 import bisect
 import collections
 import concurrent.futures
+import copy
 import itertools
 import os
 import random
@@ -49,41 +50,43 @@ class Call(typing.NamedTuple):
 
 
 class Window:
-    """A file since its last sync: its bytes at that sync and with all that was done since then, its least and greatest length, and which
-    bytes were written."""
+    """A file since its last sync: its bytes at that sync and with all that was done since then, both without the zeros at their end, its
+    length now, the least and the greatest one, and which parts were written."""
 
-    def __init__(self, content):
-        self.base = self.now = content
-        self.least = self.greatest = len(content)
-        self.written = set()
+    def __init__(self, content, length=None):
+        self.base = self.now = content.rstrip(b"\0")
+        self.length = self.least = self.greatest = len(content) if length is None else length
+        self.written = []
 
     def after(self, call):
         if call.kind == "s":
-            return Window(self.now)
-        window = Window(self.base)
-        window.now, window.least, window.greatest, window.written = self.now, self.least, self.greatest, set(self.written)
+            return Window(self.now, self.length)
+        window = copy.copy(self)
         if call.kind == "c":
-            window.now, window.least = self.now[: call.at].ljust(call.at, b"\0"), min(self.least, call.at)
-            window.greatest = max(self.greatest, call.at)
+            window.now, window.length = self.now[: call.at].rstrip(b"\0"), call.at
+            window.least, window.greatest = min(self.least, call.at), max(self.greatest, call.at)
         else:
             end = call.at + len(call.content)
-            window.now = self.now[: call.at].ljust(call.at, b"\0") + call.content + self.now[end:]
-            window.greatest = max(self.greatest, end)
-            window.written |= set(range(call.at, end))
+            window.now = (self.now[: call.at].ljust(call.at, b"\0") + call.content + self.now[end:]).rstrip(b"\0")
+            window.length, window.greatest = max(self.length, end), max(self.greatest, end)
+            window.written = [*self.written, (call.at, end)]
         return window
 
     def image(self, draw):
-        """What a crash may leave."""
+        """What a crash may leave. Behind the last byte that isn't zero before or now, zeros are left, or any bytes."""
         length = draw.choice([self.least, self.greatest, draw.randint(self.least, self.greatest)])
-        found = bytearray(self.base[:length].ljust(length, b"\0"))
-        loose = sorted({it for it in self.written if it < length} | {*range(self.least, length)})
-        new, share = self.now.ljust(length, b"\0"), draw.random()
+        found, last = bytearray(self.base[:length].ljust(length, b"\0")), max(len(self.base), len(self.now))
+        parts = [(at, min(end, length)) for at, end in [*self.written, (self.least, length)] if at < length]
+        loose = sorted({it for at, end in parts for it in range(at, min(end, last))})
+        new, share = self.now.ljust(last, b"\0"), draw.random()
         way = draw.choice(["old", "new", "front", "mixed", "any"])
         for place, at in enumerate(loose):
             if way == "any":
                 found[at] = draw.randrange(256)
             elif way == "new" or way == "front" and place < share * len(loose) or way == "mixed" and draw.random() < share:
                 found[at] = new[at]
+        for at, end in parts if way == "any" else ():
+            found[max(at, last) : end] = draw.randbytes(max(0, end - max(at, last)))
         return bytes(found)
 
 
@@ -102,7 +105,7 @@ class Record:
         self.windows, self.marks, self.moments = [{it: Window(read(f"{folder}/{it}")) for it in FILES}], [], []
         self.use({"LD_PRELOAD": library, "CALLS": f"{folder}/calls"})
         # The places of the states that are records.
-        self.places = [0, *(it for it in range(1, len(self.front.states)) if self.is_record(it))]
+        self.places = [0, *(it for it in range(1, len(self.front.states)) if self.front.is_record(it))]
         # How many records stood, behind each call; those that came by one write are a group.
         self.counts = [self.count()]
         for start, call in calls_of(read(f"{folder}/calls")):
@@ -113,15 +116,10 @@ class Record:
             raise ValueError(f"{len(self.places) - 1} changes are {self.counts[-1] - self.counts[0]} records")
         self.groups = collections.Counter(it - was for was, it in zip(self.counts, self.counts[1:]) if it - was > 1)
 
-    def is_record(self, place):
-        """Whether the state at this place is that behind a record: some command of the request, or the batch, changed something."""
-        before, after, commands = self.front.states[place - 1], self.front.states[place], self.front.commands[place - 1]
-        states = [before, *(state for state, _ in before.each(commands)), after]
-        return any(kept(one) != kept(other) for one, other in zip(states, states[1:]))
-
     def count(self):
         """How many records went before and stand, by the file in use."""
-        content = max((it.now for it in self.windows[-1].values()), key=lambda it: drives.generation([it]))
+        used = max(self.windows[-1].values(), key=lambda it: drives.generation([it.now]))
+        content = used.now.ljust(used.length, b"\0")
         return int.from_bytes(content[20:28], "little") + len(journal_files.records_of(content)[0])
 
     def use(self, settings):
@@ -188,11 +186,6 @@ class Record:
         return "".join(f"{it}\n" for it in self.daemon.lines if not it.startswith("[")).encode()
 
 
-def kept(state):
-    """All of it that is kept, to be told from other states."""
-    return state.seen(), state.stamps, state.next_id, state.order_number, state.kept
-
-
 def calls_of(record):
     """The calls of the two files that were done, each with the length of the record in front of it."""
     at = 0
@@ -213,7 +206,7 @@ def opened(program, library, room, seed):
         record, found, seen = Record(program, library, folder, random.Random(seed), KINDS[seed % len(KINDS)]), [], set()
         for _ in range(EACH):
             images, places = record.image()
-            seen.add(tuple(images.values()))
+            seen.add(hash(tuple(images.values())))
             if text := record.fault(images, places):
                 found.append(f"seed {seed}: {text}")
         return found, len(seen), record.groups

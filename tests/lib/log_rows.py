@@ -137,6 +137,56 @@ def job_that_opens_what_changed(program, folder):
         check("the log", told(daemon, "update "), [tally(job, 3, left=left, **it) for job, it in enumerate(counts, 1)])
 
 
+def empty_mount_point(program, folder):
+    """With `stock_clients` an update that misses all songs, as of a drive that isn't mounted, drops none and says so: entries and stickers
+    stay. The same once more drops them, and so does a `rescan`."""
+    names = ("a.wav", "d/b.wav")
+    error = "update would drop 2 of 2 songs: is the music there?"
+
+    def songs(client):
+        return [it.removeprefix("file: ") for it in client.ask("listall") if it.startswith("file: ")]
+
+    def seen(client):
+        entries = client.value("status", "playlistlength")
+        return songs(client), entries, client.value("status", "error"), client.ask("sticker find song \"\" rating")
+
+    def take_out():
+        for name in names:
+            os.remove(f"{folder}/music/{name}")
+
+    with serving(program, folder, **{"stock_clients:": "true"}) as daemon, daemon.client() as client:
+        for name in names:
+            put_song(daemon, name, RAMP)
+        update(client)
+        client.do('add ""', "sticker set song a.wav rating 5")
+        there = seen(client)
+        take_out()
+        update(client)
+        check("what is there", seen(client), (*there[:2], error, there[3]))
+        wait_for("its line", lambda: told(daemon, "update 2 would drop 2 of 2 songs: is the music there?"))
+        for name in names:
+            put_song(daemon, name, RAMP)
+        update(client)
+        check("with the music", seen(client), there)
+        take_out()
+        update(client)
+        client.do("update d")
+        client.settle()
+        check("a folder alone is half of them", (songs(client), client.value("status", "error")), (["a.wav"], None))
+        update(client)
+        check("one of one", (songs(client), client.value("status", "error")), (["a.wav"], error.replace("2", "1")))
+        client.do("clearerror")
+        check("cleared", client.value("status", "error"), None)
+        update(client)
+        check("once more", seen(client)[:3], ([], "0", None))
+        put_song(daemon, "a.wav", RAMP)
+        update(client)
+        os.remove(f"{folder}/music/a.wav")
+        client.do("rescan")
+        client.settle()
+        check("a rescan", (songs(client), client.value("status", "error")), ([], None))
+
+
 def files_left_out(program, folder):
     """With `debug` each file that is left out has a line, with why."""
     with serving(program, folder, **{"debug:": "true"}) as daemon, daemon.client() as client:

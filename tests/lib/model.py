@@ -387,7 +387,7 @@ class State:
         self.insert(*self.found(words, True))
 
     def searchaddpl(self, name, *words):
-        self.playlists[name] = self.playlists.get(name, ()) + tuple(self.found(words, True)[0])
+        self.put_in(name, *self.found(words, True))
 
     # Playlists.
 
@@ -408,9 +408,13 @@ class State:
         self.playlists[other] = self.playlists.pop(name)
 
     def playlistadd(self, name, uri, to=None):
-        kept, added = self.playlists.get(name, ()), tuple(self.songs_at(uri))
+        self.put_in(name, self.songs_at(uri), to)
+
+    def put_in(self, name, songs, to):
+        """Songs come into a playlist, at its end or at a place."""
+        kept = self.playlists.get(name, ())
         place = len(kept) if to is None else place_in(to, len(kept) + 1)
-        self.playlists[name] = kept[:place] + added + kept[place:]
+        self.playlists[name] = kept[:place] + tuple(songs) + kept[place:]
 
     def playlistclear(self, name):
         self.listed(name)

@@ -8,8 +8,11 @@ import readings
 
 STOP, PLAY, PAUSE = "stop", "play", "pause"
 NOT_PLAYING, UPDATING, FULL = (55, "Not playing"), (54, "already updating"), (54, "Update queue is full")
+DISK_FULL = 52, "disk full"
 # So many jobs wait with stock clients.
 MOST_WAITING = 32
+# The error of an update that dropped nothing begins so.
+WITHHELD = "update would drop "
 
 
 class Place(typing.NamedTuple):
@@ -33,6 +36,10 @@ class Player(readings.Readable):
         """What plays behind a start."""
         self.state, self.current, self.ticket, self.frame = STOP, None, 0, 0
         self.played, self.error, self.jobs, self.job, self.waiting, self.failures = [], None, 0, None, (), 0
+        # The place of each job and whether it opens all, and the place and count of the last one that dropped nothing.
+        self.kinds, self.withheld = {}, None
+        # Whether the journal's disk has room; without it nothing that is kept changes.
+        self.has_room = True
 
     def restarted(self, plays=None):
         """What is found behind a restart; where it is told whether a song plays on, the player goes on."""
@@ -46,11 +53,19 @@ class Player(readings.Readable):
 
     def done(self, words):
         state, lines = super().done(words)
+        if not self.has_room and state.saved() != self.saved():
+            raise model.Refused(*DISK_FULL)
         state.follow(self)
         return state, lines
 
+    def saved(self):
+        """What is kept beside the place."""
+        return self.seen(), self.stamps, self.next_id, self.order_number
+
     def follow(self, was):
         """Behind a command or an event the place is that of the player, if what plays is another; what has left the queue leaves it too."""
+        if not self.has_room:
+            return
         ids, kept = {it.id for it in self.queue}, self.kept
         kept = kept if kept.current in ids else Place(played=kept.played)
         self.kept = kept._replace(played=tuple(it for it in kept.played if it in ids))
@@ -63,8 +78,22 @@ class Player(readings.Readable):
 
     def keep(self, ticket):
         """The song of this ticket has played for a while."""
-        if ticket == self.ticket and self.state != STOP:
+        if ticket == self.ticket and self.state != STOP and self.has_room:
             self.put_place()
+
+    def room(self, is_there):
+        """Whether the disk has room; once there is some again, a random round begins with the current song, and the place is kept."""
+        was, self.has_room = self.has_room, is_there
+        if is_there and not was and (self.ticket or self.state != STOP or self.current is not None or self.played):
+            self.played = [self.current] if self.is_on("random") and self.current is not None else []
+            self.put_place()
+
+    def without_room(self, step):
+        """A step on a full disk: as if no entry left the queue, and what it changes of what is kept stays."""
+        kept = self.settings, self.order_number
+        self.settings = {**self.settings, "consume": "0"}
+        step()
+        self.settings, self.order_number = kept
 
     def resume(self, plays):
         """The player goes on from its place, where nothing was started in this life."""
@@ -189,8 +218,10 @@ class Player(readings.Readable):
             self.frame = min(self.frame + frames, self.frames())
 
     def ended(self, ticket):
-        if ticket != self.ticket or self.state != PLAY:
-            return
+        if ticket == self.ticket and self.state == PLAY:
+            self.end_song() if self.has_room else self.without_room(self.end_song)
+
+    def end_song(self):
         single = self.settings["single"]
         number, is_round = self.after_the_end()
         if self.is_wide and single != "0" and not self.repeats_one():
@@ -212,8 +243,10 @@ class Player(readings.Readable):
             self.settings["single"] = "0"
 
     def broken(self, ticket, cause):
-        if ticket != self.ticket or self.state == STOP:
-            return
+        if ticket == self.ticket and self.state != STOP:
+            self.break_song(cause) if self.has_room else self.without_room(lambda: self.break_song(cause))
+
+    def break_song(self, cause):
         is_through = self.repeats_one() or len(self.queue) - 1 <= self.failures
         if self.is_wide and cause == "source" and self.state == PLAY and not is_through:
             error, failures, order = f"cannot play {self.current_uri()}", self.failures, self.order_number
@@ -331,19 +364,21 @@ class Player(readings.Readable):
 
     # Scans.
 
-    def update(self, uri=""):
+    def update(self, uri="", opens_all=False):
         if self.job is not None and not self.is_wide:
             raise model.Refused(*UPDATING)
         if len(self.waiting) == MOST_WAITING:
             raise model.Refused(*FULL)
         self.jobs += 1
+        self.kinds = {**self.kinds, self.jobs: (uri, opens_all)}
         if self.job is None:
             self.job = self.jobs
         else:
             self.waiting += (self.jobs,)
         return f"updating_db: {self.jobs}\n"
 
-    rescan = update
+    def rescan(self, uri=""):
+        return self.update(uri, True)
 
     def batch(self, songs):
         """A batch of a scan finds these songs: those that are gone leave the queue and take their stickers along."""
@@ -351,6 +386,20 @@ class Player(readings.Readable):
         self.leave({it.id for it in self.queue if it.uri not in songs}, songs)
         if self.current is not None:
             self.frame = min(self.frame, self.frames())
+
+    def missing(self, count):
+        """The job that runs misses so many songs: where they are too many it is over, unless it is asked for again. Less than ten minutes
+        have passed since any other."""
+        place, opens_all = self.kinds[self.job]
+        songs, asked = len(self.songs), (place, count)
+        is_too_many = 0 < count and (songs <= count or (100 < count and songs < 2 * count))
+        if self.is_wide and not opens_all and is_too_many and self.withheld != asked:
+            self.withheld, self.error = asked, f"{WITHHELD}{count} of {songs} songs: is the music there?"
+            self.job_over()
+            return
+        self.withheld = None
+        if (self.error or "").startswith(WITHHELD):
+            self.error = None
 
     def scanned(self, songs):
         """A whole scan finds these songs."""

@@ -228,12 +228,31 @@ class Clients:
         """The output reports."""
         return self.happened(lambda state: getattr(state, name)(*given))
 
+    def room(self, is_there):
+        """It is told whether the disk has room; nobody is told of that."""
+        self.state = self.state.copied()
+        self.state.room(is_there)
+        return self.told([])
+
     def batch(self, job, songs):
         """The scan of a job has found these songs."""
         if job != self.state.job:
             return self.told([])
         self.has_found |= songs != self.state.songs
         return self.happened(lambda state: state.batch(songs))
+
+    def missing(self, job, count):
+        """It misses so many songs: where they are too many, it is over, and those that wait for the player are told of the error."""
+        if job != self.state.job:
+            return self.told([])
+        after = self.state.copied()
+        after.missing(count)
+        if after.job != job:
+            self.mark({"update", "player"} | ({"database"} if self.has_found else set()))
+            self.has_found = False
+        elif after.error != self.state.error:
+            self.mark({"player"})
+        return self.happened(lambda state: state.missing(count))
 
     def scan_done(self, job):
         """It is over: those that wait for the database are told where a song came, went or changed."""

@@ -386,7 +386,9 @@ class Episode:
         self.counts["plays"] += 1
         wanted = state.order() + [f"sound {sound.hex()}"] * bool(sound)
         rest = [it for it in printed if it != BROKEN and not it.startswith("woken")]
-        self.is_printed("play_once", rest, wanted)
+        # With the wide profile the driver makes room first: where a disk fails in that, nothing is heard.
+        if not (self.is_wide and self.may_break and BROKEN in printed and rest == state.order()):
+            self.is_printed("play_once", rest, wanted)
         return self.is_reported(printed, [lambda it=it: self.clients.report(*it) for it in reports])
 
     def is_printed(self, what, printed, wanted):
@@ -395,7 +397,11 @@ class Episode:
             raise Finding(f"{what} printed {found} and not {missed}", wanted)
 
     def scan(self, draw):
-        return self.take_scan(self.do("scan_once")[0])
+        return self.take_scan(self.do("scan_once")[0]) if self.may_scan() else None
+
+    def may_scan(self):
+        """On a full disk a scan would wait for room, and where a checkpoint comes due within it for that, which a turn makes."""
+        return self.clients.state.has_room and not (self.is_wide and self.is_near)
 
     def take_scan(self, printed):
         state = self.clients.state
@@ -405,10 +411,22 @@ class Episode:
         told = [it for it in printed if it == LEFT_OFF or it.startswith("scan ")]
         self.is_printed("scan_once", told, [f"scan {state.job} {len(state.songs)} /"])
         job, songs = state.job, dict(self.songs)
+        if self.is_wide:
+            return self.is_reported(printed, self.wide_scan(state, job, songs))
         # A batch has what was read and what is gone. Without the wide profile all is read, changed or not.
-        is_read = songs != state.songs if self.is_wide else songs or state.songs
-        events = [lambda: self.clients.batch(job, songs)] * bool(is_read) + [lambda: self.clients.scan_done(job)]
+        events = [lambda: self.clients.batch(job, songs)] * bool(songs or state.songs) + [lambda: self.clients.scan_done(job)]
         return self.is_reported(printed, events)
+
+    def wide_scan(self, state, job, songs):
+        """With the wide profile what is gone is dropped last, and not where too many are."""
+        gone = {uri: it for uri, it in state.songs.items() if uri not in songs}
+        found, after = {**gone, **songs}, state.copied()
+        after.songs = found
+        after.missing(len(gone))
+        events = [lambda: self.clients.batch(job, found)] * (found != state.songs) + [lambda: self.clients.missing(job, len(gone))]
+        if after.job != job:
+            return events
+        return [*events, *[lambda: self.clients.batch(job, songs)] * bool(gone), lambda: self.clients.scan_done(job)]
 
     def scan_in_parts(self, draw):
         """The scan's thread reports some of what it finds, or the end; or something of a job that doesn't run."""
@@ -428,7 +446,7 @@ class Episode:
                 lines.append(f"put {uri} {songs[uri].frames}{title}")
             elif uri in state.songs:
                 lines.append(f"drop {uri}")
-        if not lines:
+        if not lines or not state.has_room:
             return None
         self.is_silent(*lines)
         return self.reported(f"batch {job}", lambda: self.clients.batch(job, songs))
@@ -449,6 +467,8 @@ class Episode:
             return self.turn(draw)
         line, take, take_scarce = draw.choice([("turn", lambda it: self.take_turn(Turn(it)), self.scarce_turn)] * 3 + [
             ("play_once", self.take_play, self.scarce_play), ("scan_once", self.take_scan, self.scarce_scan)])
+        if line == "scan_once" and not self.may_scan():
+            return None
         before = self.drive.refused()
         self.drive.refuse(int(2 ** draw.uniform(0, 6)))
         printed = self.do(line)[0]
@@ -614,6 +634,13 @@ class Episode:
         line = " ".join(map(str, [name, ticket, *given]))
         return self.reported(line, lambda: self.clients.report(name, ticket, *given))
 
+    def room(self, draw):
+        """With the wide profile the disk is full, or has room again."""
+        if self.is_wide:
+            is_there = draw.random() < (0.5 if self.clients.state.has_room else 0.8)
+            self.counts["full"] += not is_there
+            self.reported(f"room {int(is_there)}", lambda: self.clients.room(is_there))
+
     def change_music(self, draw):
         uri = draw.choice([*SONGS])
         was_there = uri in self.songs
@@ -744,6 +771,7 @@ class Episode:
         scan_in_parts: 3,
         stray: 2,
         change_music: 3,
+        room: 2,
         scarce: 0.5,
         life: 2,
     }

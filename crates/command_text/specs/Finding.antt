@@ -21,7 +21,7 @@ use Rattle.command_text.specs.declared.refusal.CommandRefusal.{CommandRefusal}
 use Rattle.command_text.specs.declared.refusal.CommandRefusal.TheVariants.{WrongCount, BadArgument}
 use Rattle.command_text.specs.declared.topic.FindingName.{FindingName}
 use Rattle.command_text.specs.declared.topic.FindingName.TheVariants as names
-use Rattle.command_text.specs.Arguments.{target_of, window_of}
+use Rattle.command_text.specs.Arguments.{number_of, target_of, window_of}
 use Rattle.song_files.specs.declared.tag.Tag.{Tag}
 use Rattle.command_text.specs.Counts.{◌>>=◌, Word, argument}
 use Rattle.command_text.specs.Groups.{end_tag, last_word, most_ends, part_ends, takes_groups, without_end}
@@ -131,6 +131,11 @@ unfoldable pub position_part : ℕ → List Word → Part Target
 position_part total words =
     part (λ word. argument (second_place total words) (target_of word)) words (value_behind (codes "position") words)
 
+-- a place of a playlist, counted from its front
+unfoldable pub place_part : ℕ → List Word → Part ℕ
+place_part total words =
+    part (λ word. argument (second_place total words) (number_of word)) words (value_behind (codes "position") words)
+
 -- a part out of its order, or twice
 abbrev pub nothing_left : {A : Type 0} → ℕ → List Word → A → Result A CommandRefusal
 nothing_left total [] value = Ok value
@@ -159,28 +164,29 @@ find_add_of profile case words =
 unfoldable pub filter_alone : Profile → List Word → Result Tree CommandRefusal
 filter_alone profile words = if not (has_filter_count profile words) then Err WrongCount else filter_argument profile words
 
--- the count of a filter behind which in the wide profile an order and a window may stand, and nothing in the named subset
-abbrev pub has_arranged_count : Profile → List Word → Bool
-has_arranged_count Named words = has_filter_count Named words
-has_arranged_count Wide words = has_search_count Wide false words
+-- the count of a filter behind which in the wide profile such parts may stand, and nothing in the named subset
+abbrev pub has_arranged_count : Profile → Bool → List Word → Bool
+has_arranged_count Named adds words = has_filter_count Named words
+has_arranged_count Wide adds words = has_search_count Wide adds words
 
--- such a filter with what stands behind it, of so many arguments in all
-unfoldable pub arranged_search : Profile → Case → ℕ → List Word → Result Search CommandRefusal
-arranged_search Named case total words =
-    filter_argument Named words >>= λ filter. Ok (record { case = case; filter = filter; sort = None; window = None })
-arranged_search Wide case total words = search_parts Wide false case total words >>= λ x. nothing_left total x.1 x.0
+-- such a filter with its order and window, and the words behind them, of so many arguments in all
+unfoldable pub arranged_parts : Profile → Bool → Case → ℕ → List Word → Result (Search × List Word) CommandRefusal
+arranged_parts Named adds case total words =
+    filter_argument Named words >>= λ filter. Ok (record { case = case; filter = filter; sort = None; window = None }, [])
+arranged_parts Wide adds case total words = search_parts Wide adds case total words
 
 unfoldable pub add_to_playlist_of : Profile → List Word → Result FindingCommand CommandRefusal
 add_to_playlist_of profile [] = Err WrongCount
 add_to_playlist_of profile (name ∷ words) =
-    if not (has_arranged_count profile words) then Err WrongCount
-    else (playlist_name name >>= λ list. arranged_search profile Folded (length words + 1) words
-    >>= λ search. Ok (commands.AddToPlaylist list search))
+    if not (has_arranged_count profile true words) then Err WrongCount
+    else (playlist_name name >>= λ list. arranged_parts profile true Folded (length words + 1) words
+    >>= λ x. place_part (length words + 1) x.1
+    >>= λ to. nothing_left (length words + 1) to.1 (commands.AddToPlaylist list x.0 to.0))
 
 unfoldable pub in_queue_of : Profile → Case → List Word → Result FindingCommand CommandRefusal
 in_queue_of profile case words =
-    if not (has_arranged_count profile words) then Err WrongCount
-    else (arranged_search profile case (length words) words >>= λ search. Ok (commands.InQueue search))
+    if not (has_arranged_count profile false words) then Err WrongCount
+    else (arranged_parts profile false case (length words) words >>= λ x. nothing_left (length words) x.1 (commands.InQueue x.0))
 
 -- in a tag's place of `list` the wide profile knows the songs' files by either name
 abbrev pub is_file : Profile → Word → Bool

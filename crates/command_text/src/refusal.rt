@@ -212,6 +212,8 @@ pub enum CommandRefusal {
     StickersFull,
     /// The changes of the request would take more bytes than a record of the journal holds.
     RequestTooLarge,
+    /// What is saved would change, and the journal's disk has no room for it.
+    DiskFull,
     /// Memory was refused while the command was performed.
     OutOfMemory,
     /// The daemon isn't set up so, or has no such picture.
@@ -249,6 +251,7 @@ impl CommandRefusal {
                 AckCode::PlaylistMax,
             CommandRefusal::StickersFull
             | CommandRefusal::RequestTooLarge
+            | CommandRefusal::DiskFull
             | CommandRefusal::OutOfMemory => AckCode::System,
             CommandRefusal::Setup(refusal) => refusal.code(),
             CommandRefusal::Messages(refusal) => refusal.code(),
@@ -256,8 +259,8 @@ impl CommandRefusal {
     }
 
     /// The number of the refusal. None for the two of command lists, for a relative place without a current song, for a job
-    /// that runs already, for one too many that would wait, for a request that is too large, for what the daemon isn't set up
-    /// with, for pictures, for tags that aren't named so, and for messages.
+    /// that runs already, for one too many that would wait, for a request that is too large, for a full disk, for what the daemon
+    /// isn't set up with, for pictures, for tags that aren't named so, and for messages.
     pub fn number(&self) -> Option<u8>
         ensures { result ≡ command_number_of self.now }
     {
@@ -268,6 +271,7 @@ impl CommandRefusal {
             | CommandRefusal::AlreadyUpdating
             | CommandRefusal::UpdatesFull
             | CommandRefusal::RequestTooLarge
+            | CommandRefusal::DiskFull
             | CommandRefusal::Setup(_)
             | CommandRefusal::Tags(_)
             | CommandRefusal::Messages(_) => None,

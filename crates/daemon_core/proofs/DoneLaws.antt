@@ -18,6 +18,7 @@ use Rattle.machine_core.specs.Command.{meaning}
 use Rattle.machine_core.specs.Keeping.{keep_ops, keeps, kept, times}
 use Rattle.machine_core.specs.Looks.{looks_of, max_looks, weighed}
 use Rattle.machine_core.specs.Meaning.{Meaning, Meant}
+use Rattle.machine_core.specs.Room.{under_room}
 use Rattle.machine_core.specs.Size.{longest_keep, max_request_bytes, room_by, within, within_room, time_room}
 use Rattle.machine_core.specs.State.{MachineState}
 use Rattle.machine_core.proofs.KeepingLaws.{keep_room}
@@ -89,11 +90,13 @@ times_fit size m z fits =
     omega (arith, fits, room, bytes, length-append (op_bytes p (time_op z)) []))
 
 both_ok : (spent : Spent) (command : Command) (m : MachineState) (x : Meaning) → within_both spent command m ≡ Ok x →
-    (kept m (meaning spent.view.tags command m) ≡ Ok x) × Fits m.saved.profile spent.size x
+    (kept m (under_room m (meaning spent.view.tags command m)) ≡ Ok x) × Fits m.saved.profile spent.size x
 both_ok spent command m x h =
-    let y = kept_is m (within_room m.saved.profile spent.size (weighed spent.looks (looks_of command m) (meaning spent.view.tags command m))) x h in
-    let parts = room_ok m.saved.profile spent.size (weighed spent.looks (looks_of command m) (meaning spent.view.tags command m)) y.0 y.1 in (
-      ap (kept m) (light (meaning spent.view.tags command m) y.0 (nat_le (spent.looks + looks_of command m) max_looks) parts.0) ∙ ap says_so y.2,
+    let meant : Meant = meaning spent.view.tags command m in
+    let light_of : Meant = weighed spent.looks (looks_of command m) (under_room m meant) in
+    let y = kept_is m (within_room m.saved.profile spent.size light_of) x h in
+    let parts = room_ok m.saved.profile spent.size light_of y.0 y.1 in (
+      ap (kept m) (light (under_room m meant) y.0 (nat_le (spent.looks + looks_of command m) max_looks) parts.0) ∙ ap says_so y.2,
       subst (Fits m.saved.profile spent.size) y.2 (times_fit spent.size m (keeps m y.0) (keeps_fit spent.size m y.0 parts.1)),
     )
 
@@ -128,7 +131,7 @@ unless_way Q (Some ending) did ends h = ends ending
 
 -- what is known of a command that goes well
 abbrev pub OfMeaning : (Did → Type 0) → Spent → MachineState → Type 0
-OfMeaning Q spent m = (command : Command) (x : Meaning) → kept m (meaning spent.view.tags command m) ≡ Ok x →
+OfMeaning Q spent m = (command : Command) (x : Meaning) → kept m (under_room m (meaning spent.view.tags command m)) ≡ Ok x →
     Fits m.saved.profile spent.size x →
     Q (Goes (done_of m spent.messages x))
 

@@ -23,7 +23,9 @@ use Rattle.daemon_core.specs.Session.{Acted, of_ran, runs, output, happened}
 use Rattle.daemon_core.specs.State.{State}
 use Rattle.machine_core.specs.Happening.{Happening}
 use Rattle.machine_core.specs.Keeping.{kept_event, when_kept, when_resumed}
+use Rattle.machine_core.specs.Missing.{when_missed}
 use Rattle.machine_core.specs.Reports.{when_fed, when_ended, when_broken}
+use Rattle.machine_core.specs.Room.{when_room}
 use Rattle.machine_core.specs.Scanning.{when_found, when_scanned}
 use Rattle.daemon_core.specs.Step.{asking, begun, connects_client, asked, asked_waiting, requested_by, waiting_of, acted, told_to, step}
 use Rattle.daemon_core.specs.declared.event.Event.{Event}
@@ -224,12 +226,16 @@ keeps_acted earlier s (events.Broken ticket cause) refused rises agree =
     keeps_happened earlier s (kept_event s.machine (when_broken ticket cause s.machine)) rises agree
 keeps_acted earlier s (events.Batch job changes) refused rises agree =
     keeps_happened earlier s (kept_event s.machine (when_found job changes s.machine)) rises agree
+keeps_acted earlier s (events.Missing job songs) refused rises agree =
+    keeps_happened earlier s (when_missed job songs s.machine) rises agree
 keeps_acted earlier s (events.ScanDone job) refused rises agree = keeps_happened earlier s (when_scanned job s.machine) rises agree
 keeps_acted earlier s (events.Clock time) refused rises agree =
     record { rises = rises; agree = agree; quiet = λ d e. absurd (false≢true e) }
 keeps_acted earlier s (events.Keep ticket) refused rises agree = keeps_happened earlier s (when_kept ticket s.machine) rises agree
 keeps_acted earlier s (events.Resume plays) refused rises agree =
     keeps_happened earlier s (when_resumed plays s.machine) rises agree
+keeps_acted earlier s (events.Room is_there) refused rises agree =
+    keeps_happened earlier s (when_room is_there s.machine) rises agree
 keeps_acted earlier s (events.Picture c told) refused rises agree =
     record { rises = rises; agree = agree; quiet = λ d e. absurd (false≢true e) }
 

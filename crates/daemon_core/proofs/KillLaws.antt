@@ -161,10 +161,12 @@ acted_ends s (events.Fed ticket frames) refused = refl
 acted_ends s (events.Ended ticket) refused = refl
 acted_ends s (events.Broken ticket cause) refused = refl
 acted_ends s (events.Batch job changes) refused = refl
+acted_ends s (events.Missing job songs) refused = refl
 acted_ends s (events.ScanDone job) refused = refl
 acted_ends s (events.Clock time) refused = refl
 acted_ends s (events.Keep ticket) refused = refl
 acted_ends s (events.Resume plays) refused = refl
+acted_ends s (events.Room is_there) refused = refl
 acted_ends s (events.Picture c told) refused = refl
 
 pub step_ends : (s : State) (event : Event) (refused : Option ℕ) → (step s event refused).ended ≡ ends_daemon s event refused
@@ -210,10 +212,12 @@ acted_empties s (events.Fed ticket frames) refused h = absurd (false≢true h)
 acted_empties s (events.Ended ticket) refused h = absurd (false≢true h)
 acted_empties s (events.Broken ticket cause) refused h = absurd (false≢true h)
 acted_empties s (events.Batch job changes) refused h = absurd (false≢true h)
+acted_empties s (events.Missing job songs) refused h = absurd (false≢true h)
 acted_empties s (events.ScanDone job) refused h = absurd (false≢true h)
 acted_empties s (events.Clock time) refused h = absurd (false≢true h)
 acted_empties s (events.Keep ticket) refused h = absurd (false≢true h)
 acted_empties s (events.Resume plays) refused h = absurd (false≢true h)
+acted_empties s (events.Room is_there) refused h = absurd (false≢true h)
 acted_empties s (events.Picture c told) refused h = absurd (false≢true h)
 
 pub step_empties : (s : State) (event : Event) (refused : Option ℕ) → (step s event refused).ended ≡ true →

@@ -13,7 +13,9 @@ use Rattle.idle_masks.specs.declared.watch.Watched.{Watched}
 use Rattle.machine_core.specs.Command.{meaning}
 use Rattle.machine_core.specs.Keeping.{kept, kept_event, when_kept, when_resumed}
 use Rattle.machine_core.specs.Meaning.{Meaning}
+use Rattle.machine_core.specs.Missing.{when_missed}
 use Rattle.machine_core.specs.Reports.{when_broken, when_ended, when_fed}
+use Rattle.machine_core.specs.Room.{under_room, when_room}
 use Rattle.machine_core.specs.Scanning.{when_found, when_scanned}
 use Rattle.machine_core.specs.State.{MachineState, started, told_time}
 use Rattle.machine_core.specs.declared.clock.ClockTime.{ClockTime}
@@ -37,15 +39,17 @@ use Rattle.daemon_core.specs.declared.outcome.Ending.TheVariants.{Answered, Clos
 -- what each command, each report of the output, each event of a scan and each of a clock keeps
 pub record IsKept (P : MachineState → Type 0) : Type 0 where
   pub command : (mask : TagMask) (command : Command) (m : MachineState) (x : Meaning) → P m
-      → kept m (meaning mask command m) ≡ Ok x → P x.after
+      → kept m (under_room m (meaning mask command m)) ≡ Ok x → P x.after
   pub fed : (ticket frames : ℕ) (m : MachineState) → P m → P (when_fed ticket frames m).after
   pub ended : (ticket : ℕ) (m : MachineState) → P m → P (kept_event m (when_ended ticket m)).after
   pub broken : (ticket : ℕ) (cause : BrokenCause) (m : MachineState) → P m → P (kept_event m (when_broken ticket cause m)).after
   pub found : (job : ℕ) (changes : List RowChange) (m : MachineState) → P m → P (kept_event m (when_found job changes m)).after
+  pub missed : (job missing : ℕ) (m : MachineState) → P m → P (when_missed job missing m).after
   pub scanned : (job : ℕ) (m : MachineState) → P m → P (when_scanned job m).after
   pub clocked : (time : ClockTime) (m : MachineState) → P m → P (told_time time m)
   pub kept_at : (ticket : ℕ) (m : MachineState) → P m → P (when_kept ticket m).after
   pub resumed : (plays : Bool) (m : MachineState) → P m → P (when_resumed plays m).after
+  pub told : (is_there : Bool) (m : MachineState) → P m → P (when_room is_there m).after
 
 module _ (P : MachineState → Type 0) (always : IsKept P) where
   abbrev DidKeeps : MachineState → Did → Type 0
@@ -134,10 +138,12 @@ module _ (P : MachineState → Type 0) (always : IsKept P) where
   acted_lasts s (events.Ended ticket) refused = always.ended ticket s.machine
   acted_lasts s (events.Broken ticket cause) refused = always.broken ticket cause s.machine
   acted_lasts s (events.Batch job changes) refused = always.found job changes s.machine
+  acted_lasts s (events.Missing job songs) refused = always.missed job songs s.machine
   acted_lasts s (events.ScanDone job) refused = always.scanned job s.machine
   acted_lasts s (events.Clock time) refused = always.clocked time s.machine
   acted_lasts s (events.Keep ticket) refused = always.kept_at ticket s.machine
   acted_lasts s (events.Resume plays) refused = always.resumed plays s.machine
+  acted_lasts s (events.Room is_there) refused = always.told is_there s.machine
   acted_lasts s (events.Picture c told) refused = λ h. h
 
   pub lasts : (saved : SavedState) → P (started saved) → (history : List Entry) → P (replay saved history).machine

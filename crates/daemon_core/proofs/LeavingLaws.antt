@@ -17,7 +17,9 @@ use Rattle.idle_masks.specs.declared.subsystem.Subsystems.{Subsystems}
 use Rattle.idle_masks.specs.declared.watch.Watched.{Watched}
 use Rattle.machine_core.specs.Happening.{Happening}
 use Rattle.machine_core.specs.Keeping.{kept_event, when_kept, when_resumed}
+use Rattle.machine_core.specs.Missing.{when_missed}
 use Rattle.machine_core.specs.Reports.{when_fed, when_ended, when_broken}
+use Rattle.machine_core.specs.Room.{when_room}
 use Rattle.machine_core.specs.Scanning.{when_found, when_scanned}
 use Rattle.state_codec.specs.SavedState.{SavedState}
 use Rattle.daemon_core.specs.Agreement.{Rises}
@@ -273,10 +275,12 @@ acted_leaves s (events.Fed ticket frames) refused rises = happened_leaves s (whe
 acted_leaves s (events.Ended ticket) refused rises = happened_leaves s (kept_event s.machine (when_ended ticket s.machine))
 acted_leaves s (events.Broken ticket cause) refused rises = happened_leaves s (kept_event s.machine (when_broken ticket cause s.machine))
 acted_leaves s (events.Batch job changes) refused rises = happened_leaves s (kept_event s.machine (when_found job changes s.machine))
+acted_leaves s (events.Missing job songs) refused rises = happened_leaves s (when_missed job songs s.machine)
 acted_leaves s (events.ScanDone job) refused rises = happened_leaves s (when_scanned job s.machine)
 acted_leaves s (events.Clock time) refused rises = all_stay s.clients (acted s (events.Clock time) refused) refl refl
 acted_leaves s (events.Keep ticket) refused rises = happened_leaves s (when_kept ticket s.machine)
 acted_leaves s (events.Resume plays) refused rises = happened_leaves s (when_resumed plays s.machine)
+acted_leaves s (events.Room is_there) refused rises = happened_leaves s (when_room is_there s.machine)
 acted_leaves s (events.Picture c told) refused rises = all_stay s.clients (acted s (events.Picture c told) refused) refl refl
 
 pub closed : (kept : SavedState) (history : List Entry) (entry : Entry) →
@@ -344,10 +348,12 @@ acted_closes s (events.Fed ticket frames) refused h = refl
 acted_closes s (events.Ended ticket) refused h = refl
 acted_closes s (events.Broken ticket cause) refused h = refl
 acted_closes s (events.Batch job changes) refused h = refl
+acted_closes s (events.Missing job songs) refused h = refl
 acted_closes s (events.ScanDone job) refused h = refl
 acted_closes s (events.Clock time) refused h = refl
 acted_closes s (events.Keep ticket) refused h = refl
 acted_closes s (events.Resume plays) refused h = refl
+acted_closes s (events.Room is_there) refused h = refl
 acted_closes s (events.Picture c told) refused h = refl
 
 pub own : (s : State) (event : Event) (refused : Option ℕ) → (step s event refused).ended ≡ false →

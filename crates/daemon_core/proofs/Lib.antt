@@ -18,6 +18,7 @@ mod KillLaws
 mod LeavingLaws
 mod UnchangedLaws
 mod Lasting
+mod FullLaws
 mod SoundLaws
 mod RestartLaws
 mod SongForms

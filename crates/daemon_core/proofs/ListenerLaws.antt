@@ -281,10 +281,12 @@ acted_connected s (events.Fed ticket frames) refused h = h
 acted_connected s (events.Ended ticket) refused h = h
 acted_connected s (events.Broken ticket cause) refused h = h
 acted_connected s (events.Batch job changes) refused h = h
+acted_connected s (events.Missing job songs) refused h = h
 acted_connected s (events.ScanDone job) refused h = h
 acted_connected s (events.Clock time) refused h = h
 acted_connected s (events.Keep ticket) refused h = h
 acted_connected s (events.Resume plays) refused h = h
+acted_connected s (events.Room is_there) refused h = h
 acted_connected s (events.Picture c told) refused h = h
 
 pub connected : (kept : SavedState) (history : List Entry) → AreConnected (replay kept history).clients (replay kept history).messages

@@ -96,10 +96,12 @@ acted_within s (events.Fed ticket frames) refused = omega arith
 acted_within s (events.Ended ticket) refused = omega arith
 acted_within s (events.Broken ticket cause) refused = omega arith
 acted_within s (events.Batch job changes) refused = omega arith
+acted_within s (events.Missing job songs) refused = omega arith
 acted_within s (events.ScanDone job) refused = omega arith
 acted_within s (events.Clock time) refused = omega arith
 acted_within s (events.Keep ticket) refused = omega arith
 acted_within s (events.Resume plays) refused = omega arith
+acted_within s (events.Room is_there) refused = omega arith
 acted_within s (events.Picture c told) refused = omega arith
 
 pub step_within : (s : State) (event : Event) (refused : Option ℕ) → let now = step s event refused in now.looks ≤ max_looks

@@ -119,10 +119,12 @@ acted_reaches s (events.Fed ticket frames) refused = inr refl
 acted_reaches s (events.Ended ticket) refused = inr refl
 acted_reaches s (events.Broken ticket cause) refused = inr refl
 acted_reaches s (events.Batch job changes) refused = inr refl
+acted_reaches s (events.Missing job songs) refused = inr refl
 acted_reaches s (events.ScanDone job) refused = inr refl
 acted_reaches s (events.Clock time) refused = inr refl
 acted_reaches s (events.Keep ticket) refused = inr refl
 acted_reaches s (events.Resume plays) refused = inr refl
+acted_reaches s (events.Room is_there) refused = inr refl
 acted_reaches s (events.Picture c told) refused = inr refl
 
 settles_reaches : (refused : Option ℕ) (a free : Acted) → ActReaches refused a free →
@@ -167,10 +169,12 @@ acted_names_none s (events.Fed ticket frames) = refl
 acted_names_none s (events.Ended ticket) = refl
 acted_names_none s (events.Broken ticket cause) = refl
 acted_names_none s (events.Batch job changes) = refl
+acted_names_none s (events.Missing job songs) = refl
 acted_names_none s (events.ScanDone job) = refl
 acted_names_none s (events.Clock time) = refl
 acted_names_none s (events.Keep ticket) = refl
 acted_names_none s (events.Resume plays) = refl
+acted_names_none s (events.Room is_there) = refl
 acted_names_none s (events.Picture c told) = refl
 
 pub step_names_none : (s : State) (event : Event) → (step s event None).refused_at ≡ None

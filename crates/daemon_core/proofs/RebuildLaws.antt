@@ -13,11 +13,14 @@ use Rattle.command_text.specs.declared.request.Request.TheVariants.{Single, List
 use Rattle.idle_masks.specs.Watched.{watched}
 use Rattle.idle_masks.specs.declared.subsystem.Subsystems.{Subsystems}
 use Rattle.idle_masks.specs.declared.watch.Watched.{Watched}
+use Rattle.machine_core.proofs.FullLaws.{kept_under}
 use Rattle.machine_core.specs.Command.{meaning}
 use Rattle.machine_core.specs.Happening.{Happening}
 use Rattle.machine_core.specs.Keeping.{kept, kept_event, when_kept, when_resumed}
 use Rattle.machine_core.specs.Meaning.{Meaning}
+use Rattle.machine_core.specs.Missing.{when_missed}
 use Rattle.machine_core.specs.Reports.{when_fed, when_ended, when_broken}
+use Rattle.machine_core.specs.Room.{when_room}
 use Rattle.machine_core.specs.Scanning.{when_found, when_scanned}
 use Rattle.machine_core.specs.Size.{max_request_bytes}
 use Rattle.machine_core.specs.State.{MachineState}
@@ -66,7 +69,7 @@ attempted_rebuilds : (law : CommandsRebuild) (c : Asker) (place : Place) (spent 
 attempted_rebuilds law c place spent line m within =
     line_is (Rebuilds spent.size m) c place spent line m (λ ending. tt) (λ refusal. tt)
     (λ command talk is. record { state = refl; fits = none_more m.saved.profile spent.size within })
-    (λ command x means fits. record { state = law spent.view.tags command m x means; fits = fits })
+    (λ command x means fits. record { state = law spent.view.tags command m x (kept_under m (meaning spent.view.tags command m) x means); fits = fits })
 
 ops_bytes-append : (profile : Profile) (a b : List Op)
     → length (ops_bytes profile (a ++ b)) ≡ length (ops_bytes profile a) + length (ops_bytes profile b)
@@ -186,10 +189,12 @@ acted_rebuilds law s (events.Broken ticket cause) refused reported =
     happened_rebuilds s (kept_event s.machine (when_broken ticket cause s.machine)) reported
 acted_rebuilds law s (events.Batch job changes) refused reported =
     happened_rebuilds s (kept_event s.machine (when_found job changes s.machine)) reported
+acted_rebuilds law s (events.Missing job songs) refused reported = happened_rebuilds s (when_missed job songs s.machine) reported
 acted_rebuilds law s (events.ScanDone job) refused reported = happened_rebuilds s (when_scanned job s.machine) reported
 acted_rebuilds law s (events.Clock time) refused reported = record { state = refl; fits = none_fits s.machine }
 acted_rebuilds law s (events.Keep ticket) refused reported = happened_rebuilds s (when_kept ticket s.machine) reported
 acted_rebuilds law s (events.Resume plays) refused reported = happened_rebuilds s (when_resumed plays s.machine) reported
+acted_rebuilds law s (events.Room is_there) refused reported = happened_rebuilds s (when_room is_there s.machine) reported
 acted_rebuilds law s (events.Picture c told) refused reported = record { state = refl; fits = none_fits s.machine }
 
 pub step_rebuilds : (law : CommandsRebuild) (s : State) (event : Event) (refused : Option ℕ) → IsReported event s.machine →

@@ -33,6 +33,7 @@ use Rattle.machine_core.specs.Command.{meaning}
 use Rattle.machine_core.specs.Looks.{looked, looks_of, max_looks, settings_looks, weighed}
 use Rattle.machine_core.specs.Meaning.{Meaning, Meant}
 use Rattle.machine_core.specs.Keeping.{kept}
+use Rattle.machine_core.specs.Room.{under_room}
 use Rattle.machine_core.specs.Size.{within_room}
 use Rattle.machine_core.specs.State.{MachineState}
 use Rattle.machine_core.specs.Work.{AddsNothing, AddsText, FailedKept, HasRoom, IsKeptRefusalOf, PerformsKept, WentKept, ack_room}
@@ -151,7 +152,7 @@ machine_is c spent command m meant other same =
 pub machine_performs : (c : Asker) (command : Command) (s t : MachineState) (talks : Talks) (before after : Work) (looks : ℕ) (view : View)
     (set : Subsystems) → own_of c (spent_of before.size looks view talks.messages) command s ≡ None →
     WentKept s.saved.profile (kept s (within_room s.saved.profile before.size (weighed looks (looks_of command s)
-    (meaning view.tags command s)))) t before after → set ≡ changed s t →
+    (under_room s (meaning view.tags command s))))) t before after → set ≡ changed s t →
     IsPerformed (done_by c (spent_of before.size looks view talks.messages) command s) s t talks talks before after set
 machine_performs c command s t talks before after looks view set other went same =
     let x : Meaning = went.meaning in
@@ -171,7 +172,7 @@ machine_performs c command s t talks before after looks view set other went same
 
 machine_refused : (c : Asker) (command : Command) (s : MachineState) (talks : Talks) (size looks : ℕ) (view : View) (failure : Failure) →
     own_of c (spent_of size looks view talks.messages) command s ≡ None →
-    IsKeptRefusalOf s.saved.profile (weighed looks (looks_of command s) (meaning view.tags command s)) size failure →
+    IsKeptRefusalOf s.saved.profile (weighed looks (looks_of command s) (under_room s (meaning view.tags command s))) size failure →
     IsRefusalBy (done_by c (spent_of size looks view talks.messages) command s) failure
 machine_refused c command s talks size looks view (failures.Refused refusal) other h =
     machine_is c (spent_of size looks view talks.messages) command s (Err refusal) other (ap (kept s) h)
@@ -179,7 +180,7 @@ machine_refused c command s talks size looks view failures.NoMemory other h = tt
 
 pub machine_fails : (c : Asker) (command : Command) (s t : MachineState) (talks : Talks) (before after : Work) (looks : ℕ) (view : View)
     (failure : Failure) → own_of c (spent_of before.size looks view talks.messages) command s ≡ None →
-    FailedKept (weighed looks (looks_of command s) (meaning view.tags command s)) s t before after failure →
+    FailedKept (weighed looks (looks_of command s) (under_room s (meaning view.tags command s))) s t before after failure →
     IsNotPerformed (done_by c (spent_of before.size looks view talks.messages) command s) s t talks talks before after failure
 machine_fails c command s t talks before after looks view failure other failed = record {
   stands = failed.state;
@@ -190,7 +191,7 @@ machine_fails c command s t talks before after looks view failure other failed =
 
 pub machine_runs : (c : Asker) (command : Command) (s t : MachineState) (talks : Talks) (before after : Work) (looks : ℕ) (view : View)
     (r : Result Subsystems Failure) → own_of c (spent_of before.size looks view talks.messages) command s ≡ None →
-    PerformsKept (weighed looks (looks_of command s) (meaning view.tags command s)) s t before after r →
+    PerformsKept (weighed looks (looks_of command s) (under_room s (meaning view.tags command s))) s t before after r →
     IfOk r (λ set. set ≡ changed s t) →
     RunsCommand (done_by c (spent_of before.size looks view talks.messages) command s) s t talks talks before after r
 machine_runs c command s t talks before after looks view (Ok set) other went same =

@@ -8,7 +8,7 @@ use Rattle.state_codec.specs.SavedState.{SavedState, IsSavedPlace, IsSavedState}
 use Rattle.machine_core.specs.Keeping.{when_resumed}
 use Rattle.machine_core.specs.Restart.{GoesOnAs, HasSoundPlace, IsIdle, IsKeptMachine, IsSoundPlace, IsThere}
 use Rattle.machine_core.specs.Sound.{IsSoundMachine}
-use Rattle.machine_core.specs.State.{MachineState, started}
+use Rattle.machine_core.specs.State.{MachineState, lacks_room, started}
 use Rattle.daemon_core.specs.Replay.{Entry, replay}
 use Rattle.daemon_core.proofs.Lasting.{IsKept, lasts}
 
@@ -28,7 +28,8 @@ kept_machine keeps kept history saved wide sound =
         sound = record { current = tt; played = tt; once = tt; ordered = λ off. refl };
         frame = tt;
       };
-      step = λ place is. record {
+      sound = sound;
+      step = λ room place is. record {
         sound = sound place is;
         here = inl (record { state = refl; current = refl; ticket = refl; played = refl });
       };
@@ -41,9 +42,9 @@ GoesOnLaw =
     → IsSoundPlace m.saved.queue.entries m.saved.options.random place → IsThere m.player place
     → let h = when_resumed plays (started m.saved) in GoesOnAs plays m.player h.after.player
 
-pub machine_goes_on : GoesOnLaw → (plays : Bool) (m : MachineState) → IsKeptMachine m → m.player.ticket ≢ 0
+pub machine_goes_on : GoesOnLaw → (plays : Bool) (m : MachineState) → IsKeptMachine m → lacks_room m ≡ false → m.player.ticket ≢ 0
     → let h = when_resumed plays (started m.saved) in GoesOnAs plays m.player h.after.player
-machine_goes_on law plays m is begun = of m.saved.place refl
+machine_goes_on law plays m is room begun = of m.saved.place refl
   where
     there : (place : PlaceState) → m.saved.place ≡ Some place → IsSoundPlace m.saved.queue.entries m.saved.options.random place
         → (IsIdle m.player) ⊎ (IsThere m.player place)
@@ -54,4 +55,4 @@ machine_goes_on law plays m is begun = of m.saved.place refl
     of : (place : Option PlaceState) → m.saved.place ≡ place
         → let h = when_resumed plays (started m.saved) in GoesOnAs plays m.player h.after.player
     of None none = absurd (false≢true (sym (ap (λ (p : Option PlaceState). is_some p) none) ∙ is.has))
-    of (Some place) some = let kept = is.step place some in there place some kept.sound kept.here
+    of (Some place) some = let kept = is.step room place some in there place some kept.sound kept.here

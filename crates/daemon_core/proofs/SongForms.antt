@@ -158,7 +158,7 @@ over_song : (entries : List Entry) (settings : PlaySettings) (single : Single) (
     let step = over entries settings single player in Keeps player step.player
 over_song entries settings single player = over_at_song entries settings single player (placed entries player.current)
 
-ended_song : (state : PlayState) (entries : List Entry) (settings : PlaySettings) (player : PlayerState) (ticket : ℕ) →
+pub ended_song : (state : PlayState) (entries : List Entry) (settings : PlaySettings) (player : PlayerState) (ticket : ℕ) →
     let step = ended_in state entries settings player ticket in Keeps player step.player
 ended_song Stop entries settings player ticket = λ h. h
 ended_song Pause entries settings player ticket = λ h. h
@@ -171,7 +171,7 @@ broken_song player ticket cause uri =
     one_of_two player (record player { state = Stop; error = Some (failure cause uri) }) player
     (counts player.state player.ticket ticket) (λ h. refl) (λ h. h)
 
-failed_song : (entries : List Entry) (settings : PlaySettings) (player : PlayerState) (ticket : ℕ) (cause : BrokenCause)
+pub failed_song : (entries : List Entry) (settings : PlaySettings) (player : PlayerState) (ticket : ℕ) (cause : BrokenCause)
     (entry : Option Entry) → let step = failed_of entries settings player ticket cause entry in Keeps player step.player
 failed_song entries settings player ticket cause None = λ h. h
 failed_song entries settings player ticket cause (Some entry) =

@@ -13,21 +13,22 @@ use Rattle.idle_masks.specs.declared.watch.Watched.{Watched}
 use Rattle.command_text.specs.declared.request.Request.{Request}
 use Rattle.machine_core.specs.Changed.{changed, same_state, same_playing, same_job, same_options}
 use Rattle.machine_core.specs.Followed.{current_row}
-use Rattle.machine_core.specs.Happening.{Happening, nothing_happens}
+use Rattle.machine_core.specs.Happening.{Happening, if_room, nothing_happens}
 use Rattle.machine_core.specs.Keeping.{keeps_place, kept_event, resumes}
+use Rattle.machine_core.specs.Missing.{misses}
 use Rattle.machine_core.specs.Reports.{when_fed, when_ended, when_broken, fed_in, happens, player_happens}
 use Rattle.machine_core.specs.Scanning.{is_running, finds, kept_changes, telling, ends_scan, when_found}
-use Rattle.machine_core.specs.State.{MachineState, settings_of}
-use Rattle.machine_core.specs.Steps.{steps}
+use Rattle.machine_core.specs.State.{MachineState, lacks_room, settings_of}
+use Rattle.machine_core.specs.Steps.{stepping, steps, unsaved, without_consume}
 use Rattle.machine_core.specs.declared.clock.ClockTime.{ClockTime}
 use Rattle.machine_core.specs.declared.job.Job.{Job}
 use Rattle.machine_core.proofs.KeepingLaws.{kept_nothing}
 use Rattle.machine_core.proofs.SameParts.{lists_decide, stickers_decide, text_itself}
 use Rattle.play_queue.specs.declared.entry.Entry.{Entry as QueueEntry}
-use Rattle.player_core.specs.Ending.{ended_in, over}
+use Rattle.player_core.specs.Ending.{ended, ended_in, over}
 use Rattle.player_core.specs.Order.{current_entry}
 use Rattle.player_core.specs.Player.{PlayerState, Step, unchanged}
-use Rattle.player_core.specs.Reports.{broken, counts, failed_of, failure, is_through, passed, passes_by}
+use Rattle.player_core.specs.Reports.{broken, counts, failed, failed_of, failure, is_through, passed, passes_by}
 use Rattle.player_core.specs.declared.failure.BrokenCause.{BrokenCause}
 use Rattle.player_core.specs.declared.failure.BrokenCause.TheVariants.{Source, Output}
 use Rattle.player_core.specs.declared.manners.Manners.{Manners}
@@ -206,15 +207,26 @@ step_stays m step same =
 fed_late : (m : MachineState) (ticket frames : ℕ) → is_late ticket m.player ≡ true → when_fed ticket frames m ≡ nothing_happens m
 fed_late m ticket frames late = player_stays m _ (late_fed (current_row m.saved m.player) ticket frames m.player late)
 
+-- a step that changes nothing by any settings, with room and without
+either_late : (m : MachineState) (step : PlaySettings → Step) → ((settings : PlaySettings) → step settings ≡ unchanged m.player)
+    → stepping m step ≡ unchanged m.player
+either_late m step stays = of (lacks_room m)
+  where
+    of : (b : Bool) → cond b (unsaved (step (without_consume (settings_of m.saved)))) (step (settings_of m.saved)) ≡ unchanged m.player
+    of true = ap unsaved (stays (without_consume (settings_of m.saved)))
+    of false = stays (settings_of m.saved)
+
 ended_late : (m : MachineState) (ticket : ℕ) → is_late ticket m.player ≡ true → when_ended ticket m ≡ nothing_happens m
 ended_late m ticket late =
-    step_stays m _ (late_ended m.player.state m.saved.queue.entries (settings_of m.saved) m.player ticket late)
+    step_stays m (stepping m (λ settings. ended m.saved.queue.entries settings m.player ticket))
+    (either_late m _ (λ settings. late_ended m.player.state m.saved.queue.entries settings m.player ticket late))
 
 broken_late : (m : MachineState) (ticket : ℕ) (cause : BrokenCause) → is_late ticket m.player ≡ true →
     when_broken ticket cause m ≡ nothing_happens m
 broken_late m ticket cause late =
-    step_stays m _ (late_failed (current_entry m.saved.queue.entries m.player.current) m.saved.queue.entries (settings_of m.saved) ticket
-    cause m.player late)
+    step_stays m (stepping m (λ settings. failed m.saved.queue.entries settings m.player ticket cause))
+    (either_late m _ (λ settings. late_failed (current_entry m.saved.queue.entries m.player.current) m.saved.queue.entries settings ticket
+    cause m.player late))
 
 -- Events of a scan.
 over_runs : (runs same : Bool) → (not runs || not same) ≡ true → (runs && same) ≡ false
@@ -262,8 +274,10 @@ acted_stray s (events.Broken ticket cause) refused h =
     kept_none s (when_broken ticket cause s.machine) (broken_late s.machine ticket cause h)
 acted_stray s (events.Batch job changes) refused h =
     kept_none s (when_found job changes s.machine)
-    (ap (λ b. cond b (finds (telling s.machine.saved.songs (kept_changes s.machine.saved.profile changes)) s.machine)
+    (ap (λ b. cond b (if_room s.machine (finds (telling s.machine.saved.songs (kept_changes s.machine.saved.profile changes)) s.machine))
     (nothing_happens s.machine)) (not_running job s.machine h))
+acted_stray s (events.Missing job songs) refused h =
+    ap (λ b. happened s (cond b (misses songs s.machine) (nothing_happens s.machine))) (not_running job s.machine h)
 acted_stray s (events.ScanDone job) refused h =
     ap (λ b. happened s (cond b (ends_scan s.machine) (nothing_happens s.machine))) (not_running job s.machine h)
 acted_stray s (events.Clock time) refused h = absurd (false≢true h)
@@ -273,6 +287,7 @@ acted_stray s (events.Keep ticket) refused h =
 acted_stray s (events.Resume plays) refused h =
     ap (λ b. happened s (cond b (resumes plays s.machine s.machine.saved.place) (nothing_happens s.machine)))
     (not_false (s.machine.player.ticket == 0) h)
+acted_stray s (events.Room is_there) refused h = absurd (false≢true h)
 acted_stray s (events.Picture c told) refused h =
     λ i. nothing (with_pictures s (unread_absent (watched s.clients c) s.pictures c told h i))
 

@@ -13,6 +13,7 @@ use Rattle.command_text.specs.declared.request.Request.TheVariants.{Single, List
 use Rattle.idle_masks.specs.Watched.{watched}
 use Rattle.idle_masks.specs.declared.subsystem.Subsystems.{Subsystems}
 use Rattle.idle_masks.specs.declared.watch.Watched.{Watched}
+use Rattle.machine_core.proofs.FullLaws.{kept_under}
 use Rattle.machine_core.specs.Command.{meaning}
 use Rattle.machine_core.specs.Happening.{Happening, nothing_happens}
 use Rattle.machine_core.specs.Keeping.{kept, kept_event, resumes, when_kept, when_resumed}
@@ -20,9 +21,11 @@ use Rattle.machine_core.specs.Meaning.{Meaning}
 use Rattle.machine_core.proofs.KeepingLaws.{kept_nothing}
 use Rattle.player_core.specs.Place.{PlaceState}
 use Rattle.player_core.specs.declared.failure.BrokenCause.{BrokenCause}
+use Rattle.machine_core.specs.Missing.{is_withheld, misses, goes_ahead, when_missed, withholds}
 use Rattle.machine_core.specs.Reports.{when_broken, when_ended}
+use Rattle.machine_core.specs.Room.{when_room}
 use Rattle.machine_core.specs.Scanning.{ends_scan, finds, is_running, kept_changes, telling, when_found, when_scanned}
-use Rattle.machine_core.specs.State.{MachineState}
+use Rattle.machine_core.specs.State.{lacks_room, MachineState}
 use Rattle.song_db.specs.declared.change.RowChange.{RowChange}
 use Rattle.state_codec.specs.SavedState.{IsSavedState}
 use Rattle.state_codec.specs.declared.op.Op.{Op}
@@ -53,11 +56,14 @@ pub record MachineTells : Type 0 where
       → (kept_event m (when_broken ticket cause m)).after.saved ≡ m.saved → (kept_event m (when_broken ticket cause m)).ops ≡ []
   pub broken_same : (ticket : ℕ) (cause : BrokenCause) (m : MachineState)
       → (kept_event m (when_broken ticket cause m)).ops ≡ [] → (kept_event m (when_broken ticket cause m)).after.saved ≡ m.saved
-  pub found : (job : ℕ) (changes : List RowChange) (m : MachineState) → is_running job m ≡ true
+  pub found : (job : ℕ) (changes : List RowChange) (m : MachineState) → is_running job m ≡ true → lacks_room m ≡ false
       → ((kept_event m (when_found job changes m)).ops ≡ [] ↔ telling m.saved.songs (kept_changes m.saved.profile changes) ≡ [])
   pub kept_none : (ticket : ℕ) (m : MachineState) → IsSavedState m.saved
       → (when_kept ticket m).after.saved ≡ m.saved → (when_kept ticket m).ops ≡ []
   pub kept_same : (ticket : ℕ) (m : MachineState) → (when_kept ticket m).ops ≡ [] → (when_kept ticket m).after.saved ≡ m.saved
+  pub told_none : (is_there : Bool) (m : MachineState) → IsSavedState m.saved
+      → (when_room is_there m).after.saved ≡ m.saved → (when_room is_there m).ops ≡ []
+  pub told_same : (is_there : Bool) (m : MachineState) → (when_room is_there m).ops ≡ [] → (when_room is_there m).after.saved ≡ m.saved
 
 -- it makes no op exactly where it leaves what is saved
 record Tells (Leaves : Type 0) (m : MachineState) (ops : List Op) : Type 0 where
@@ -82,8 +88,8 @@ attempted_tells known c place spent line m =
     line_is (DidTells m) c place spent line m (λ ending. tt) (λ refusal. tt)
     (λ command talk is. record { none = λ saved leaves. refl; same = λ empty. refl })
     (λ command x means fits. record {
-      none = λ saved leaves. known.none spent.view.tags command m x saved means leaves;
-      same = λ empty. known.same spent.view.tags command m x means empty;
+      none = λ saved leaves. known.none spent.view.tags command m x saved (kept_under m (meaning spent.view.tags command m) x means) leaves;
+      same = λ empty. known.same spent.view.tags command m x (kept_under m (meaning spent.view.tags command m) x means) empty;
     })
 
 -- so does what a request ran
@@ -166,26 +172,44 @@ connect_tells c s None = silent s.machine
 connect_tells c s (Some w) = silent s.machine
 
 found_tells : (known : MachineTells) (job : ℕ) (changes : List RowChange) (m : MachineState) →
-    let h = kept_event m (when_found job changes m) in Tells (is_running job m ≡ true
+    let h = kept_event m (when_found job changes m) in Tells (is_running job m ≡ true → lacks_room m ≡ false
     → telling m.saved.songs (kept_changes m.saved.profile changes)
     ≡ []) m h.ops
 found_tells known job changes m = record {
-  none = λ saved leaves. of (is_running job m) refl leaves;
-  same = λ empty runs. (known.found job changes m runs).0 empty;
+  none = λ saved leaves. of (is_running job m) (lacks_room m) refl refl leaves;
+  same = λ empty runs room. (known.found job changes m runs room).0 empty;
 }
   where
-    of : (b : Bool) → is_running job m ≡ b → (is_running job m ≡ true → telling m.saved.songs (kept_changes m.saved.profile changes) ≡ []) →
+    finding : Bool → Bool → Happening
+    finding runs lacks = kept_event m (cond runs
+        (cond lacks (nothing_happens m) (finds (telling m.saved.songs (kept_changes m.saved.profile changes)) m)) (nothing_happens m))
+
+    of : (b lacks : Bool) → is_running job m ≡ b → lacks_room m ≡ lacks
+        → (is_running job m ≡ true → lacks_room m ≡ false → telling m.saved.songs (kept_changes m.saved.profile changes) ≡ []) →
         let h = kept_event m (when_found job changes m) in h.ops ≡ []
-    of true runs leaves = (known.found job changes m runs).1 (leaves runs)
-    of false runs leaves =
-        ap (λ (b : Bool). let h : Happening = kept_event m (cond b (finds (telling m.saved.songs (kept_changes m.saved.profile changes)) m)
-        (nothing_happens m)) in h.ops) runs ∙ ap (λ (h : Happening). h.ops) (kept_nothing m)
+    of true false runs room leaves = (known.found job changes m runs room).1 (leaves runs room)
+    of true true runs room leaves =
+        ap (λ (b : Bool). let h : Happening = finding b (lacks_room m) in h.ops) runs
+        ∙ ap (λ (b : Bool). let h : Happening = finding true b in h.ops) room ∙ ap (λ (h : Happening). h.ops) (kept_nothing m)
+    of false lacks runs room leaves =
+        ap (λ (b : Bool). let h : Happening = finding b (lacks_room m) in h.ops) runs ∙ ap (λ (h : Happening). h.ops) (kept_nothing m)
 
 scanned_tells : (job : ℕ) (m : MachineState) → let h = when_scanned job m in Tells (Unit {0}) m h.ops
 scanned_tells job m = of (is_running job m)
   where
     of : (b : Bool) → let h : Happening = cond b (ends_scan m) (nothing_happens m) in Tells (Unit {0}) m h.ops
     of true = silent m
+    of false = silent m
+
+missed_tells : (job missing : ℕ) (m : MachineState) → let h = when_missed job missing m in Tells (Unit {0}) m h.ops
+missed_tells job missing m = of (is_running job m)
+  where
+    by : (b : Bool) → let h : Happening = cond b (withholds missing m) (goes_ahead m) in Tells (Unit {0}) m h.ops
+    by true = silent m
+    by false = silent m
+
+    of : (b : Bool) → let h : Happening = cond b (misses missing m) (nothing_happens m) in Tells (Unit {0}) m h.ops
+    of true = by (is_withheld missing m)
     of false = silent m
 
 resumed_tells : (plays : Bool) (m : MachineState) → let h = when_resumed plays m in Tells (Unit {0}) m h.ops
@@ -211,11 +235,14 @@ acted_tells known s (events.Ended ticket) refused =
 acted_tells known s (events.Broken ticket cause) refused =
     record { none = known.broken_none ticket cause s.machine; same = known.broken_same ticket cause s.machine }
 acted_tells known s (events.Batch job changes) refused = found_tells known job changes s.machine
+acted_tells known s (events.Missing job songs) refused = missed_tells job songs s.machine
 acted_tells known s (events.ScanDone job) refused = scanned_tells job s.machine
 acted_tells known s (events.Clock time) refused = silent s.machine
 acted_tells known s (events.Keep ticket) refused =
     record { none = known.kept_none ticket s.machine; same = known.kept_same ticket s.machine }
 acted_tells known s (events.Resume plays) refused = resumed_tells plays s.machine
+acted_tells known s (events.Room is_there) refused =
+    record { none = known.told_none is_there s.machine; same = known.told_same is_there s.machine }
 acted_tells known s (events.Picture c told) refused = silent s.machine
 
 pub no_op : (known : MachineTells) (s : State) (event : Event) (refused : Option ℕ) → IsSavedState s.machine.saved

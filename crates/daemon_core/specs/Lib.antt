@@ -25,3 +25,4 @@ pub mod Talk
 pub mod Talking
 pub mod Unchanged
 pub mod Running
+pub mod Full

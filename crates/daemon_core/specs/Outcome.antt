@@ -23,10 +23,12 @@ command_count (events.Fed ticket frames) = 0
 command_count (events.Ended ticket) = 0
 command_count (events.Broken ticket cause) = 0
 command_count (events.Batch job changes) = 0
+command_count (events.Missing job songs) = 0
 command_count (events.ScanDone job) = 0
 command_count (events.Clock time) = 0
 command_count (events.Keep ticket) = 0
 command_count (events.Resume plays) = 0
+command_count (events.Room is_there) = 0
 command_count (events.Picture c told) = 0
 
 -- The answer and the state after are those of the step, with memory refused at the command that the answer names, or at none.

@@ -2,7 +2,9 @@
 use Rattle.std.specs.Prelude.{◌≡◌, ◌≤◌, length, Some}
 use Rattle.machine_core.specs.Happening.{Happening}
 use Rattle.machine_core.specs.Keeping.{kept_event, when_kept, when_resumed}
+use Rattle.machine_core.specs.Missing.{when_missed}
 use Rattle.machine_core.specs.Reports.{when_fed, when_ended, when_broken}
+use Rattle.machine_core.specs.Room.{when_room}
 use Rattle.machine_core.specs.Scanning.{when_found, when_scanned}
 use Rattle.machine_core.specs.Size.{max_request_bytes}
 use Rattle.machine_core.specs.State.{MachineState}
@@ -25,8 +27,10 @@ IsReported (events.Fed ticket frames) m = IsRebuilt m (when_fed ticket frames m)
 IsReported (events.Ended ticket) m = IsRebuilt m (kept_event m (when_ended ticket m))
 IsReported (events.Broken ticket cause) m = IsRebuilt m (kept_event m (when_broken ticket cause m))
 IsReported (events.Batch job changes) m = IsRebuilt m (kept_event m (when_found job changes m))
+IsReported (events.Missing job songs) m = IsRebuilt m (when_missed job songs m)
 IsReported (events.ScanDone job) m = IsRebuilt m (when_scanned job m)
 IsReported (events.Clock time) m = Unit {0}
 IsReported (events.Keep ticket) m = IsRebuilt m (when_kept ticket m)
 IsReported (events.Resume plays) m = IsRebuilt m (when_resumed plays m)
+IsReported (events.Room is_there) m = IsRebuilt m (when_room is_there m)
 IsReported (events.Picture c told) m = Unit {0}

@@ -24,6 +24,7 @@ use Rattle.machine_core.specs.Command.{meaning}
 use Rattle.machine_core.specs.Keeping.{kept}
 use Rattle.machine_core.specs.Looks.{looked, looks_of, max_looks, weighed}
 use Rattle.machine_core.specs.Meaning.{Meaning, Meant}
+use Rattle.machine_core.specs.Room.{under_room}
 use Rattle.machine_core.specs.Size.{within_room}
 use Rattle.machine_core.specs.State.{MachineState}
 use Rattle.state_codec.specs.Sealed.{checksum_len}
@@ -126,10 +127,12 @@ spent_of size looks view messages = record { size = size; looks = looks; view = 
 abbrev pub unspent : MachineState → View → List Listener → Spent
 unspent m view messages = spent_of (checksum_len m.saved.profile) 0 view messages
 
--- what a command means, within what is left of both, with what is kept of the player and of the playlists' times behind it
+-- what a command means, where there is room for what it changes, within what is left of both, with what is kept of the player and of the
+-- playlists' times behind it
 abbrev pub within_both : Spent → Command → MachineState → Meant
 within_both spent command m =
-    kept m (within_room m.saved.profile spent.size (weighed spent.looks (looks_of command m) (meaning spent.view.tags command m)))
+    kept m (within_room m.saved.profile spent.size
+    (weighed spent.looks (looks_of command m) (under_room m (meaning spent.view.tags command m))))
 
 -- a command of pictures tells its lines, and leaves the messages
 abbrev pub shows : List Listener → Result (List ℕ) CommandRefusal → Result Talk CommandRefusal

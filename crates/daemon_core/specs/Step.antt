@@ -14,7 +14,9 @@ use Rattle.idle_masks.specs.declared.subsystem.Subsystem.{Subsystem}
 use Rattle.idle_masks.specs.declared.subsystem.Subsystems.{Subsystems}
 use Rattle.idle_masks.specs.declared.watch.Watched.{Watched}
 use Rattle.machine_core.specs.Keeping.{kept_event, when_kept, when_resumed}
+use Rattle.machine_core.specs.Missing.{when_missed}
 use Rattle.machine_core.specs.Reports.{when_fed, when_ended, when_broken}
+use Rattle.machine_core.specs.Room.{when_room}
 use Rattle.machine_core.specs.Scanning.{when_found, when_scanned}
 use Rattle.state_codec.specs.declared.op.Op.{Op}
 use Rattle.daemon_core.specs.Pending.{Moment, with_news}
@@ -89,10 +91,12 @@ acted s (events.Fed ticket frames) refused = happened s (when_fed ticket frames 
 acted s (events.Ended ticket) refused = happened s (kept_event s.machine (when_ended ticket s.machine))
 acted s (events.Broken ticket cause) refused = happened s (kept_event s.machine (when_broken ticket cause s.machine))
 acted s (events.Batch job changes) refused = happened s (kept_event s.machine (when_found job changes s.machine))
+acted s (events.Missing job songs) refused = happened s (when_missed job songs s.machine)
 acted s (events.ScanDone job) refused = happened s (when_scanned job s.machine)
 acted s (events.Clock time) refused = nothing (clocked time s)
 acted s (events.Keep ticket) refused = happened s (when_kept ticket s.machine)
 acted s (events.Resume plays) refused = happened s (when_resumed plays s.machine)
+acted s (events.Room is_there) refused = happened s (when_room is_there s.machine)
 acted s (events.Picture c told) refused = nothing (reads_picture c told s)
 
 abbrev pub line_if : Bool → Subsystem → List ℕ

@@ -34,10 +34,12 @@ is_stray s (events.Fed ticket frames) = is_late ticket s.machine.player
 is_stray s (events.Ended ticket) = is_late ticket s.machine.player
 is_stray s (events.Broken ticket cause) = is_late ticket s.machine.player
 is_stray s (events.Batch job changes) = is_over job s.machine.job
+is_stray s (events.Missing job songs) = is_over job s.machine.job
 is_stray s (events.ScanDone job) = is_over job s.machine.job
 is_stray s (events.Clock time) = false
 is_stray s (events.Keep ticket) = is_late ticket s.machine.player
 is_stray s (events.Resume plays) = not (s.machine.player.ticket == 0)
+is_stray s (events.Room is_there) = false
 is_stray s (events.Picture c told) = is_none (watched s.clients c)
 
 -- the state stays, and nothing is given out

@@ -8,8 +8,9 @@ use Rattle.idle_masks.specs.Watched.{watched}
 use Rattle.idle_masks.specs.declared.subsystem.Subsystems.{Subsystems}
 use Rattle.machine_core.specs.Keeping.{kept_event, when_kept}
 use Rattle.machine_core.specs.Reports.{when_broken, when_ended}
+use Rattle.machine_core.specs.Room.{when_room}
 use Rattle.machine_core.specs.Scanning.{is_running, kept_changes, telling}
-use Rattle.machine_core.specs.State.{MachineState}
+use Rattle.machine_core.specs.State.{MachineState, lacks_room}
 use Rattle.state_codec.specs.declared.op.Op.{Op}
 use Rattle.daemon_core.specs.Run.{Asker, Did, Goes, Refuses, Ends, attempted, is_refused_at, Spent, spent_behind, spent_on}
 use Rattle.daemon_core.specs.State.{State}
@@ -57,9 +58,12 @@ LeavesSaved s (events.Ended ticket) refused = (kept_event s.machine (when_ended 
 LeavesSaved s (events.Broken ticket cause) refused = (kept_event s.machine (when_broken ticket cause s.machine)).after.saved
     ≡ s.machine.saved
 LeavesSaved s (events.Batch job changes) refused =
-    is_running job s.machine ≡ true → telling s.machine.saved.songs (kept_changes s.machine.saved.profile changes) ≡ []
+    is_running job s.machine ≡ true → lacks_room s.machine ≡ false
+    → telling s.machine.saved.songs (kept_changes s.machine.saved.profile changes) ≡ []
+LeavesSaved s (events.Missing job songs) refused = Unit {0}
 LeavesSaved s (events.ScanDone job) refused = Unit {0}
 LeavesSaved s (events.Clock time) refused = Unit {0}
 LeavesSaved s (events.Keep ticket) refused = (when_kept ticket s.machine).after.saved ≡ s.machine.saved
 LeavesSaved s (events.Resume plays) refused = Unit {0}
+LeavesSaved s (events.Room is_there) refused = (when_room is_there s.machine).after.saved ≡ s.machine.saved
 LeavesSaved s (events.Picture c told) refused = Unit {0}

@@ -1,5 +1,5 @@
 // The daemon's state of one process life: the machine, its clients, and what is looked up in it without an event.
-ghost use Rattle.std.specs.Prelude.{◌≡◌, ◌↔◌, false, IfOk, IsTrue, option_map};
+ghost use Rattle.std.specs.Prelude.{◌≡◌, ◌↔◌, false, IfOk, IsTrue, option_copied, option_map};
 ghost use Rattle.player_core.specs.declared.playing.PlayState.{PlayState};
 ghost use Rattle.player_core.specs.declared.order.Order.{Order as PlayOrder};
 ghost use Rattle.daemon_core.specs.State.{start};
@@ -11,7 +11,7 @@ use crate::talk::Talks;
 use crate::views::Views;
 use crate::watching::Watching;
 use idle_masks::ClientId;
-use machine_core::Machine;
+use machine_core::{ClockTime, Machine, WithheldJob};
 use no_memory::NoMemory;
 use player_core::{Order, PlayState};
 use song_db::{LibraryRules, ScanOrder};
@@ -36,6 +36,7 @@ impl Model for Core {
 }
 
 impl Core {
+    ghost use Rattle.machine_core.specs.State.{lacks_room};
     ghost use Rattle.daemon_core.specs.Orders.{play_order, scan_order};
     ghost use Rattle.daemon_core.specs.Seen.{view_of};
 
@@ -99,6 +100,20 @@ impl Core {
         }
     }
 
+    /// What a clock told last.
+    pub fn clock(&self) -> ClockTime
+        ensures { result ≡ self.now.machine.clock }
+    {
+        self.parts.machine.clock()
+    }
+
+    /// Whether what is saved can't change, since the journal's disk has no room: under the first profile that is never so.
+    pub fn lacks_room(&self) -> bool
+        ensures { result ≡ lacks_room self.now.machine }
+    {
+        self.parts.machine.lacks_room()
+    }
+
     /// Whether a song plays: where none does, `order` is to wait. It takes no memory.
     pub fn is_playing(&self) -> bool
         ensures value { IsTrue result ↔ (self.now.machine.player.state ≡ PlayState.Play) }
@@ -123,5 +138,12 @@ impl Core {
     {
         let job = self.parts.machine.job();
         if job.runs { Some(job.number) } else { None }
+    }
+
+    /// The last job that dropped nothing because it missed too many songs, until another goes on. It takes no memory.
+    pub fn withheld(&self) -> Option<&WithheldJob>
+        ensures { option_copied result ≡ self.now.machine.withheld }
+    {
+        self.parts.machine.withheld()
     }
 }

@@ -23,6 +23,8 @@ pub enum Event {
     Broken { ticket: u64, cause: BrokenCause },
     /// What a scan found, for the job of this number.
     Batch { job: u32, changes: Changes },
+    /// The scan of this job has read its place, and misses so many songs that were known: it comes before the first change that drops one.
+    Missing { job: u32, songs: usize },
     /// The scan of this job is over.
     ScanDone { job: u32 },
     /// A clock tells the time: it comes before what needs it.
@@ -31,6 +33,8 @@ pub enum Event {
     Keep { ticket: u64 },
     /// The player goes on from where it was kept: a song that played plays on, or is paused.
     Resume { plays: bool },
+    /// The journal's disk has no room for what changes, or there is room again.
+    Room { is_there: bool },
     /// This was read of a picture for a client: it comes right before the request that asks for it.
     Picture(ClientId, PictureTold),
 }

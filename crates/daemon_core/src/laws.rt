@@ -1,6 +1,7 @@
 //! Laws of the definitions, for the layers above: a call brings its clauses into their proofs.
 ghost use Rattle.std.specs.Prelude.{◌≡◌, ◌≢◌, ◌⊎◌, ◌≤◌, ◌∷◌, ℕ, Bool, List, [], Option, Some, None, true, false, IfSome, IsSome};
 ghost use Rattle.std.specs.List.{AllByRecursion};
+ghost use Rattle.daemon_core.specs.Full.{brings_room};
 ghost use Rattle.daemon_core.specs.Kill.{ends_daemon};
 ghost use Rattle.daemon_core.specs.Leaving.{missing, still_there, there, ClosesNoOther};
 ghost use Rattle.daemon_core.specs.Pictures.{told_for};
@@ -21,7 +22,7 @@ ghost use Rattle.machine_core.specs.Keeping.{when_resumed};
 ghost use Rattle.machine_core.specs.Looks.{max_looks};
 ghost use Rattle.machine_core.specs.Restart.{GoesOnAs, HasSoundPlace};
 ghost use Rattle.machine_core.specs.Sound.{IsIn, AreOwn, IsWithinSong};
-ghost use Rattle.machine_core.specs.State.{started};
+ghost use Rattle.machine_core.specs.State.{lacks_room, started};
 ghost use Rattle.machine_core.specs.declared.clock.ClockTime.{ClockTime};
 ghost use Rattle.profile.specs.declared.profile.Profile.TheVariants.{Wide};
 ghost use Rattle.state_codec.specs.SavedState.{SavedState, IsSavedState};
@@ -142,16 +143,31 @@ pub fn frame_is_within_the_song()
 }
 
 /// After any history of a state of the wide profile whose place was sound, as a fresh one's is, the place is sound; and where a song was
-/// started in that history, or gone on with, the next life goes on with the player's song and round.
+/// started in that history, or gone on with, and the journal's disk has room, the next life goes on with the player's song and round.
 pub fn a_restart_goes_on()
     ensures sound { (kept : SavedState) (history : List Entry) → IsSavedState kept → kept.profile ≡ Wide → HasSoundPlace kept
         → HasSoundPlace (replay kept history).machine.saved }
     ensures goes_on { (kept : SavedState) (history : List Entry) (plays : Bool) → IsSavedState kept → kept.profile ≡ Wide
-        → HasSoundPlace kept → let m = (replay kept history).machine in m.player.ticket ≢ 0
+        → HasSoundPlace kept → let m = (replay kept history).machine in lacks_room m ≡ false → m.player.ticket ≢ 0
         → GoesOnAs plays m.player (when_resumed plays (started m.saved)).after.player }
 {
     machine_core::laws::kept_place_stays_in_step();
     machine_core::laws::a_restart_goes_on();
+}
+
+/// Without room an event makes no op and leaves the saved half as it is; what tells that room is there again makes those that bring the
+/// kept place to where the player is.
+pub fn without_room_nothing_saved()
+    ensures saved { (s : State) (event : Event) (refused : Option ℕ) → lacks_room s.machine ≡ true → brings_room event ≡ false
+        → (step s event refused).after.machine.saved ≡ s.machine.saved }
+    ensures ops { (s : State) (event : Event) (refused : Option ℕ) → lacks_room s.machine ≡ true → brings_room event ≡ false
+        → (step s event refused).ops ≡ [] }
+    ensures lasts { (s : State) (event : Event) (refused : Option ℕ) → lacks_room s.machine ≡ true → brings_room event ≡ false
+        → lacks_room (step s event refused).after.machine ≡ true }
+    ensures told { (s : State) (is_there : Bool) (refused : Option ℕ)
+        → (step s (events.Room is_there) refused).after.machine.has_room ≡ is_there }
+{
+    machine_core::laws::without_room_nothing_saved();
 }
 
 /// An event makes no op exactly where nothing that is saved changes at any turn of it: no command of its request that is run changes the

@@ -53,6 +53,10 @@ impl CoreParts {
                 let happened = self.machine.batch(alloc, job, changes)?;
                 Ok(Handled::happened(alloc, happened))
             }
+            Event::Missing { job, songs } => {
+                let happened = self.machine.missed(alloc, job, songs)?;
+                Ok(Handled::happened(alloc, happened))
+            }
             Event::ScanDone { job } => {
                 let happened = self.machine.scan_done(alloc, job);
                 Ok(Handled::happened(alloc, happened))
@@ -67,6 +71,10 @@ impl CoreParts {
             }
             Event::Resume { plays } => {
                 let happened = self.machine.resume(alloc, plays)?;
+                Ok(Handled::happened(alloc, happened))
+            }
+            Event::Room { is_there } => {
+                let happened = self.machine.tell_room(alloc, is_there)?;
                 Ok(Handled::happened(alloc, happened))
             }
             Event::Picture(client, told) => self.read_picture(alloc, client, told),

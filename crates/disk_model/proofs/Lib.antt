@@ -5,6 +5,7 @@ mod Replay
 mod ReplayedMoments
 pub mod ImageLaws
 pub mod LaterLaws
+pub mod LengthLaws
 pub mod MomentLaws
 pub mod WindowLaws
 mod Written

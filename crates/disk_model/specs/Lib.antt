@@ -8,6 +8,7 @@ pub mod Fuse
 pub mod History
 pub mod Images
 pub mod Later
+pub mod Lengthened
 pub mod Memory
 pub mod Moments
 pub mod Replayed

@@ -1,12 +1,17 @@
 // The interface of a disk, and all that is promised of an honest one.
 ghost use Rattle.std.specs.Prelude.{◌≡◌, ◌+◌, ◌-◌, ◌^◌, ◌<◌, ◌≤◌, min, ◌↔◌, List, ℕ, [], ◌∷◌, length, take, slice_range, OnOk, OnErr};
-ghost use Rattle.std.specs.Prelude.{IsErrOf, IsTrue, ◌≢◌};
+ghost use Rattle.std.specs.Prelude.{IfOk, IsErrOf, IsTrue, true, ◌≢◌};
 ghost use Rattle.disk_model.specs.Calls.{overwritten, IsMadeOrNothing};
 ghost use Rattle.disk_model.specs.Faults.{IsCounted};
 ghost use Rattle.disk_model.specs.History.{Change, Wrote, CutTo, Synced};
 ghost use Rattle.disk_model.specs.Images.{window, IsImage};
+ghost use Rattle.disk_model.specs.Lengthened.{IsBegunBehind, IsLengthened};
 
 use crate::DiskError;
+use std::io;
+
+// So many zero bytes are put behind a file at a time.
+pub(crate) const PIECE: usize = 65_536;
 
 /// One file on a disk. Offsets and lengths are in bytes, and a length is at most 2^63 - 1.
 ///
@@ -95,6 +100,34 @@ pub trait Disk {
         ensures not_made { honest self.old → OnErr result (history self.new ≡ history self.old) }
         ensures in_range { honest self.old → result ≢ Err DiskError.OutOfRange }
         ensures counted { IsCounted (faults self.old) (faults self.new) result };
+
+    /// Puts zero bytes behind the end of a file up to this length, piece by piece, and syncs; `false` where the disk has no room for them:
+    /// then what was put there is cut off again, and that is synced. What stands in the file stays, whatever comes of it.
+    fn lengthen(&mut self, len: u64) -> Result<bool, DiskError>
+        ensures honest { honest self.old ↔ honest self.new }
+        ensures lengthened { honest self.old → OnOk result (IsLengthened len (content self.old) (content self.new) (history self.old)
+            (history self.new)) }
+        ensures long { honest self.old → IfOk result (λ is_there. is_there ≡ true → len ≤ length (content self.new)) }
+        ensures in_part { honest self.old → OnErr result (IsBegunBehind len (content self.old) (history self.old) (history self.new)) }
+        ensures in_range { honest self.old → result ≢ Err DiskError.OutOfRange }
+        ensures counted { IsCounted (faults self.old) (faults self.new) result }
+    {
+        let zeros = [0; PIECE];
+        let mut at = self.len();
+        while at < len {
+            let count = (len - at).min(PIECE as u64);
+            self.write_at(at, &zeros[..count as usize])?;
+            at += count;
+        }
+        self.sync()?;
+        Ok(true)
+    }
+
+    /// Which call was refused room when the file was to be lengthened last, and what the system said; none where it was lengthened, or
+    /// where no system is asked.
+    fn room_refusal(&self) -> Option<(&'static str, io::Error)> {
+        None
+    }
 
     /// How often the disk has failed. The count stops at 2^64 - 1.
     fn faults(&self) -> u64

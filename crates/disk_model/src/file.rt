@@ -1,10 +1,10 @@
 // A disk over a real file.
 ghost use Rattle.std.specs.Prelude.{◌≡◌, ◌≢◌, ◌+◌, ◌-◌, ◌^◌, ◌<◌, ◌≤◌, ◌↔◌, true, false, min, max, ℕ, List, [], length, IfOk, OnOk};
-ghost use Rattle.std.specs.Prelude.{OnErr, IsErrOf};
+ghost use Rattle.std.specs.Prelude.{OnErr, IsErrOf, Err};
 ghost use Rattle.disk_model.specs.Faults.{IsCounted};
 ghost use Rattle.disk_model.specs.FileLength.{length_of, file_faults, is_lost};
 
-use crate::disk::count_fault;
+use crate::disk::{PIECE, count_fault};
 use crate::{Disk, DiskError};
 use std::fs::{File, OpenFile, OpenOptions};
 use std::io;
@@ -27,6 +27,8 @@ pub struct FileDisk<F> {
     is_lost: bool,
     // What the system said of the last call that failed.
     error: Option<io::Error>,
+    // The call that was refused room when the file was to be lengthened last, and what the system said.
+    no_room: Option<(&'static str, io::Error)>,
 }
 
 impl<F: OpenFile + FileExt> FileDisk<F> {
@@ -50,6 +52,7 @@ impl<F: OpenFile + FileExt> FileDisk<F> {
             faults: 0,
             is_lost: false,
             error: None,
+            no_room: None,
         })
     }
 
@@ -70,6 +73,49 @@ impl<F: OpenFile + FileExt> FileDisk<F> {
         count_fault(&mut self.faults)
     }
 
+    // Puts zero bytes behind the end up to this length, and syncs.
+    fn put_zeros(&self, len: u64) -> Result<(), (&'static str, io::Error)> {
+        let zeros = [0; PIECE];
+        let mut at = self.len;
+        while at < len {
+            let count = (len - at).min(PIECE as u64);
+            if let Err(error) = self.file.write_all_at(&zeros[..count as usize], at) {
+                return Err(("write", error));
+            }
+            at += count;
+        }
+        if let Err(error) = self.file.sync_data() {
+            return Err(("sync", error));
+        }
+        Ok(())
+    }
+
+    // Cuts off what was put behind the end, for which there was no room, and syncs. That the sync before it failed says nothing of the
+    // bytes in front: they were synced before.
+    fn give_back(&mut self, call: &'static str, error: io::Error) -> Result<bool, DiskError>
+        ensures ok { IfOk result (λ is_there. is_there ≡ false) }
+        ensures length_stays { self.new.len ≡ self.old.len }
+        ensures counted { IsCounted self.old.faults self.new.faults result }
+        ensures fault { OnErr result (result ≡ Err DiskError.DiskFault) }
+        ensures stays { OnOk result (self.new.is_lost ≡ self.old.is_lost) }
+        ensures loses { OnErr result (self.new.is_lost ≡ true) }
+    {
+        let cut = match self.file.set_len(self.len) {
+            Ok(()) => self.file.sync_data(),
+            Err(error) => Err(error),
+        };
+        match cut {
+            Ok(()) => {
+                self.no_room = Some((call, error));
+                Ok(false)
+            }
+            Err(error) => {
+                self.is_lost = true;
+                Err(self.failed(error))
+            }
+        }
+    }
+
     // Counts a fault of a call that may have been done in part, and measures the file again.
     fn changed_in_part(&mut self, error: io::Error) -> DiskError
         ensures counted { self.new.faults ≡ min (self.old.faults + 1) (2 ^ 64 - 1) }
@@ -81,6 +127,14 @@ impl<F: OpenFile + FileExt> FileDisk<F> {
             Err(_) => self.is_lost = true,
         }
         self.failed(error)
+    }
+}
+
+// The disk is full, the user's part of it, or the file is as long as it may be: ENOSPC, EDQUOT, EFBIG.
+fn is_of_room(error: &io::Error) -> bool {
+    match error.raw_os_error() {
+        Some(code) => code == 28 || code == 122 || code == 27,
+        None => false,
     }
 }
 
@@ -200,6 +254,38 @@ impl<F: OpenFile + FileExt> Disk for FileDisk<F> {
                 Err(self.failed(error))
             }
         }
+    }
+
+    fn lengthen(&mut self, len: u64) -> Result<bool, DiskError>
+        ensures counted { IsCounted (file_faults self.old) (file_faults self.new) result }
+        ensures in_range { result ≢ Err DiskError.OutOfRange }
+        ensures there { IfOk result (λ is_there. is_there ≡ true → length_of self.new ≡ max (length_of self.old) len) }
+        ensures not_there { IfOk result (λ is_there. is_there ≡ false → length_of self.new ≡ length_of self.old) }
+        ensures lost { OnOk result (is_lost self.old ≡ false) }
+        ensures stays_lost { is_lost self.old ≡ true → is_lost self.new ≡ true }
+        ensures loses { OnErr result (is_lost self.new ≡ true) }
+    {
+        if self.is_lost || len > MAX_LEN {
+            self.is_lost = true;
+            return Err(count_fault(&mut self.faults));
+        }
+        match self.put_zeros(len) {
+            Ok(()) => {
+                self.len = self.len.max(len);
+                self.no_room = None;
+                Ok(true)
+            }
+            Err((call, error)) if is_of_room(&error) => self.give_back(call, error),
+            Err((_, error)) => {
+                // What a sync left undone of this can't be told from what it did.
+                self.is_lost = true;
+                Err(self.failed(error))
+            }
+        }
+    }
+
+    fn room_refusal(&self) -> Option<(&'static str, io::Error)> {
+        self.no_room
     }
 
     fn faults(&self) -> u64

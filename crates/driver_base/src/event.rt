@@ -65,10 +65,17 @@ pub fn event_of(alloc: Global, collected: &mut Vec<RowChange>, text: &str) -> Re
             job: job_of(first),
             changes: batch_of(collected)?,
         }),
+        "missing" => Ok(Event::Missing {
+            job: job_of(first),
+            songs: number(rest)?,
+        }),
         "scanned" => Ok(Event::ScanDone { job: job_of(first) }),
         "clock" => Ok(Event::Clock(clock_of(first, rest)?)),
         "keep" => Ok(Event::Keep { ticket: first }),
         "resume" => Ok(Event::Resume { plays: first == 1 }),
+        "room" => Ok(Event::Room {
+            is_there: first == 1,
+        }),
         "picture" => Ok(Event::Picture(first, picture_of(alloc, rest)?)),
         _ => Err(Fault::NoDirective),
     }

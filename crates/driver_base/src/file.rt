@@ -3,15 +3,16 @@ use crate::calls::make_calls;
 use crate::fault::Fault;
 use crate::given::read_bytes;
 use crate::printer::Printer;
+use crate::room::RoomDisk;
 use crate::words::{first_word, number};
 use disk_model::{Disk, Fuse, FuseDisk, MemDisk};
 use std::alloc::{AllocError, Global};
 use std::mem;
 
-/// The disk of each life: it is in memory, and fails by a fuse.
-pub type TestDisk = FuseDisk<MemDisk>;
+/// The disk of each life: it is in memory, fails by a fuse, and takes no memory for room.
+pub type TestDisk = RoomDisk<FuseDisk<MemDisk>>;
 
-/// A disk of a daemon: it fails by two fuses.
+/// A disk of a daemon: it fails by two fuses, and what is put behind its end is there.
 pub type DaemonDisk = FuseDisk<TestDisk>;
 
 /// A fuse that nothing meets.
@@ -74,7 +75,7 @@ impl File {
     /// Takes its disk for a life.
     pub fn take(&mut self) -> TestDisk {
         let disk = mem::replace(&mut self.disk, MemDisk::new(self.alloc));
-        FuseDisk::new(disk, mem::replace(&mut self.fuse, NEVER))
+        RoomDisk::new(FuseDisk::new(disk, mem::replace(&mut self.fuse, NEVER)))
     }
 
     /// Takes its disk for the lives of a daemon.
@@ -86,6 +87,7 @@ impl File {
 
     /// Puts its disk back after a life.
     pub fn put_back(&mut self, disk: TestDisk) {
+        let disk = disk.into_inner();
         self.calls = disk.calls();
         self.faults = disk.faults();
         self.disk = disk.into_inner();

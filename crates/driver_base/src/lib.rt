@@ -16,6 +16,7 @@ mod journal;
 pub mod lines;
 mod picture;
 pub mod printer;
+mod room;
 pub mod rows;
 pub mod shown;
 pub mod signs;

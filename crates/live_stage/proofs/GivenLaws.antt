@@ -2,11 +2,14 @@
 use Rattle.std.proofs.Common.{◌≡◌, ◌==◌, inl, inr, ℕ, Bool, true, false, cond, List, [], ◌∷◌, Option, Some, None, refl, ap, ◌∙◌}
 use Rattle.std.specs.Option.{option_and_then}
 use Rattle.disk_model.specs.History.{Change}
-use Rattle.machine_core.specs.Happening.{Happening, nothing_happens}
+use Rattle.machine_core.specs.Happening.{if_room, Happening, nothing_happens}
+use Rattle.player_core.specs.Reports.{turned}
 use Rattle.machine_core.specs.Keeping.{keep_ops, keeps_place, kept_event, resumes, when_kept, when_resumed}
+use Rattle.machine_core.specs.Missing.{is_withheld, misses, goes_ahead, when_missed, withholds}
 use Rattle.machine_core.specs.Reports.{when_broken, when_ended}
+use Rattle.machine_core.specs.Room.{is_idle, room_back, when_room}
 use Rattle.machine_core.specs.Scanning.{changes_rows, ends_scan, finds, is_running, kept_changes, telling, when_found, when_scanned}
-use Rattle.machine_core.specs.State.{MachineState}
+use Rattle.machine_core.specs.State.{lacks_room, told_room, MachineState}
 use Rattle.player_core.specs.Place.{PlaceState}
 use Rattle.player_core.specs.Reports.{counts}
 use Rattle.play_journal.specs.Content.{Content, IsKnownLayout}
@@ -68,12 +71,21 @@ finds_profile : (changes : List RowChange) (m : MachineState) → (let h = finds
 finds_profile [] m = refl
 finds_profile (change ∷ changes) m = after_all_profile (let h = changes_rows (change ∷ changes) m in h.ops) m.saved
 
+room_or_not_profile : (h : Happening) (m : MachineState) → h.after.saved.profile ≡ m.saved.profile
+    → (let r = if_room m h in r.after.saved.profile) ≡ m.saved.profile
+room_or_not_profile h m same =
+    elim (lacks_room m) as (λ b. (let r = cond b (nothing_happens m) h in r.after.saved.profile) ≡ m.saved.profile) [
+      | true ↦ refl
+      | false ↦ same
+    ]
+
 found_profile : (job : ℕ) (changes : List RowChange) (m : MachineState)
     → (let h = when_found job changes m in h.after.saved.profile) ≡ m.saved.profile
 found_profile job changes m =
-    elim (is_running job m) as (λ b. (let h = cond b (finds (telling m.saved.songs (kept_changes m.saved.profile changes)) m)
+    elim (is_running job m) as (λ b. (let h = cond b (if_room m (finds (telling m.saved.songs (kept_changes m.saved.profile changes)) m))
     (nothing_happens m) in h.after.saved.profile) ≡ m.saved.profile) [
-      | true ↦ finds_profile (telling m.saved.songs (kept_changes m.saved.profile changes)) m
+      | true ↦ room_or_not_profile (finds (telling m.saved.songs (kept_changes m.saved.profile changes)) m) m
+          (finds_profile (telling m.saved.songs (kept_changes m.saved.profile changes)) m)
       | false ↦ refl
     ]
 
@@ -81,6 +93,18 @@ scanned_profile : (job : ℕ) (m : MachineState) → (let h = when_scanned job m
 scanned_profile job m =
     elim (is_running job m) as (λ b. (let h = cond b (ends_scan m) (nothing_happens m) in h.after.saved.profile) ≡ m.saved.profile) [
       | true ↦ refl
+      | false ↦ refl
+    ]
+
+missed_profile : (job missing : ℕ) (m : MachineState)
+    → (let h = when_missed job missing m in h.after.saved.profile) ≡ m.saved.profile
+missed_profile job missing m =
+    elim (is_running job m) as (λ b. (let h = cond b (misses missing m) (nothing_happens m) in h.after.saved.profile) ≡ m.saved.profile) [
+      | true ↦ (elim (is_withheld missing m) as (λ b. (let h = cond b (withholds missing m) (goes_ahead m) in h.after.saved.profile)
+          ≡ m.saved.profile) [
+            | true ↦ refl
+            | false ↦ refl
+          ])
       | false ↦ refl
     ]
 
@@ -112,6 +136,21 @@ resumed_profile plays m =
       | false ↦ refl
     ]
 
+caught_profile : (b : Bool) (m n : MachineState) → n.saved.profile ≡ m.saved.profile
+    → (let h = cond b (nothing_happens m) (keeps_place n) in h.after.saved.profile) ≡ m.saved.profile
+caught_profile true m n same = refl
+caught_profile false m n same = after_all_profile (let h = keeps_place n in h.ops) n.saved ∙ same
+
+back_profile : (b : Bool) (m : MachineState) → (let h = room_back b m in h.after.saved.profile) ≡ m.saved.profile
+back_profile false m = refl
+back_profile true m = caught_profile (is_idle m.player) (told_room true m) (record (told_room true m) {
+  player = turned m.saved.options.random m.player;
+}) refl
+
+room_profile : (is_there : Bool) (m : MachineState) → (let h = when_room is_there m in h.after.saved.profile) ≡ m.saved.profile
+room_profile false m = refl
+room_profile true m = back_profile (lacks_room m) m
+
 -- what is rebuilt by its ops keeps the profile
 by_ops : (s : State) (r : Stepped) → all_applied r.ops s.machine.saved ≡ Some r.after.machine.saved
     → r.after.machine.saved.profile ≡ s.machine.saved.profile
@@ -133,10 +172,12 @@ step_profile law s (events.Broken ticket cause) refused =
     let h : Happening = when_broken ticket cause s.machine in
     after_all_profile (keep_ops s.machine h.after) h.after.saved ∙ after_all_profile h.ops s.machine.saved
 step_profile law s (events.Batch job changes) refused = kept_found_profile job changes s.machine
+step_profile law s (events.Missing job songs) refused = missed_profile job songs s.machine
 step_profile law s (events.ScanDone job) refused = scanned_profile job s.machine
 step_profile law s (events.Clock time) refused = refl
 step_profile law s (events.Keep ticket) refused = kept_profile ticket s.machine
 step_profile law s (events.Resume plays) refused = resumed_profile plays s.machine
+step_profile law s (events.Room is_there) refused = room_profile is_there s.machine
 step_profile law s (events.Picture c told) refused = refl
 
 -- nor does a history

@@ -2,9 +2,9 @@
 use Rattle.std.proofs.Common.{◌≡◌, ◌≢◌, ◌⊎◌, inl, inr, ℕ, ◌+◌, ◌-◌, ◌*◌, ◌^◌, ◌<◌, ◌≤◌, min, Bool, true, false, not, ◌&&◌, ◌||◌, List, [], ◌∷◌, ◌++◌}
 use Rattle.std.proofs.Common.{length, length-append, map, reverse, Option, Some, None, Result, Ok, Err, refl, sym, ap, subst, ◌∙◌}
 use Rattle.std.proofs.Common.{append_assoc, arith}
-use Rattle.std.specs.Prelude.{sum_by, nat_le, nat_lt, ◌==◌}
+use Rattle.std.specs.Prelude.{sum_by, nat_le, ◌==◌}
 use Rattle.std.specs.List.{AllByRecursion, list_any}
-use Rattle.std.proofs.lemmas.Bool.{and_parts, not-true, or_cases, or_left, or_right, or_parts, leb-true, ltb-true, le-leb, lt-ltb, eqb-false}
+use Rattle.std.proofs.lemmas.Bool.{and_parts, not-true, or_parts, leb-true, eqb-false}
 use Rattle.std.proofs.lemmas.Bool.Decides.{nat_tests}
 use Rattle.std.proofs.lemmas.List.{append-nil, reverse-append}
 use Rattle.std.proofs.lemmas.List.Sums.{sum_by-append}
@@ -151,23 +151,15 @@ pub file_bytes : (file : FileNumbers) (bodies : List (List ℕ)) → file.bytes 
 file_bytes file [] fits = omega (arith, fits)
 file_bytes file (body ∷ bodies) fits = refl
 
--- a checkpoint that is due stays so
-pub due_stays : (file : FileNumbers) (bodies : List (List ℕ)) → file.bytes ≤ greatest
-    → is_due file ≡ true → is_due (file_with file bodies) ≡ true
-due_stays file bodies fits due =
-    let f : FileNumbers = file_with file bodies in
-    elim (or_cases _ _ due) [
-      | inl many ↦ or_left _ _ (le-leb most_records f.records
-          (omega (arith, leb-true most_records file.records many, file_records file bodies)))
-      | inr long ↦ or_right _ _ (lt-ltb (most_bytes f.snapshot_len) f.bytes
-          (omega (
-            arith,
-            ltb-true (most_bytes file.snapshot_len) file.bytes long,
-            file_bytes file bodies fits,
-            fits,
-            ap most_bytes (file_snapshot file bodies),
-          )))
-    ]
+pub file_put_off : (file : FileNumbers) (bodies : List (List ℕ)) → (let f = file_with file bodies in f.is_put_off) ≡ file.is_put_off
+file_put_off file [] = refl
+file_put_off file (body ∷ bodies) = refl
+
+pub put_off_with : (file : FileNumbers) (bodies : List (List ℕ)) (put_off : Bool)
+    → (let f : FileNumbers = file_with file bodies in let g : FileNumbers = record f { is_put_off = put_off } in g)
+    ≡ (let f : FileNumbers = record file { is_put_off = put_off } in file_with f bodies)
+put_off_with file [] put_off = refl
+put_off_with file (body ∷ bodies) put_off = refl
 
 -- a content with these records stands for the state behind them
 stands_on : (p : Profile) (content : Content) (bodies : List (List ℕ)) (ops : List Op) (s after : SavedState) → s.profile ≡ p

@@ -6,6 +6,7 @@ pub mod FoundLaws
 pub mod StartLaws
 pub mod RunLaws
 pub mod TurnLaws
+pub mod AheadLaws
 pub mod OpeningLaws
 pub mod GroupLaws
 pub mod StagingLaws

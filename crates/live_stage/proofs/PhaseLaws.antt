@@ -30,8 +30,8 @@ use Rattle.live_stage.specs.Numbers.{greatest, ready_file, recorded}
 use Rattle.live_stage.specs.Staging.{KeepsToBounds}
 use Rattle.live_stage.specs.Transcript.{IsStepOf, IsTranscript, entry_of, history_of, numbers_after, replayed}
 use Rattle.live_stage.specs.Turns.{IsReady, IsStored, MakesNoCall, StaysInFile, WritesAlone, WritesOneFile, ready_content}
-use Rattle.live_stage.proofs.GroupLaws.{Reply, body_takes}
-use Rattle.live_stage.proofs.TurnLaws.{IsOtherKept, join_pairs, one_file, one_file_written, other_join, ready_same}
+use Rattle.live_stage.proofs.GroupLaws.{Reply, body_takes, file_put_off}
+use Rattle.live_stage.proofs.TurnLaws.{IsOtherKept, join_pairs, one_file, one_file_written, other_join, ready_made, ready_same}
 
 -- ---- refusals
 
@@ -204,16 +204,23 @@ module _ {D : Type 0} (old ready new : LiveState D) (got : IsReady old ready) (t
     full = λ is more. sym (takes_same turns) ∙ ends.full is more;
   }
 
-  pub written_from : (history : D → List Change) → ready.content ≡ ready_content old
+  -- where no checkpoint was put off, none is
+  put_off_from : IsGroup ready turns new → old.file.is_put_off ≡ false → new.file.is_put_off ≡ false
+  put_off_from made none =
+      ap (λ (f : FileNumbers). f.is_put_off) made.file ∙ file_put_off (group_file ready turns) (bodies_after ready.state (history_in turns))
+      ∙ ap (λ (f : FileNumbers). f.is_put_off) (same_file ∙ group_file_of old turns some) ∙ ready_made old.state.machine.saved old.file none
+
+  pub written_from : IsGroup ready turns new → (history : D → List Change) → ready.content ≡ ready_content old
       → new.content ≡ with_records ready.content (bodies_after ready.state (history_in turns)) → KeepsToBounds new.file
       → IsStored history new → IsGroupWritten history old new turns
-  written_from history first more bounds stored = record {
+  written_from made history first more bounds stored = record {
     says = more ∙ ap (λ (k : Content). with_records k (bodies_after ready.state (history_in turns))) first
         ∙ ap (λ (s : State). with_records (ready_content old) (bodies_after s (history_in turns))) got.state
         ∙ ap (λ (k : Content). with_records k (bodies_after old.state (history_in turns))) (sym (group_content_of old turns some));
     stored = stored;
-    few = λ _. subst (λ (f : FileNumbers). f.records ≤ most_records) stored.file bounds.few;
-    short = λ _. subst (λ (f : FileNumbers). f.bytes ≤ most_bytes f.snapshot_len + longest_record) stored.file bounds.short;
+    few = λ _ none. subst (λ (f : FileNumbers). f.records ≤ most_records) stored.file (bounds.few (put_off_from made none));
+    short = λ _ none. subst (λ (f : FileNumbers). f.bytes ≤ most_bytes f.snapshot_len + longest_record) stored.file
+        (bounds.short (put_off_from made none));
   }
 
   pub none_called_from : (bodies_after ready.state (history_in turns) ≡ [] → MakesNoCall ready new)

@@ -20,7 +20,7 @@ use Rattle.live_stage.specs.Group.{AreParted, TookEach, answer_bytes, answer_loo
 use Rattle.live_stage.specs.Group.{may_follow, takes_more}
 use Rattle.live_stage.specs.Numbers.{FileNumbers, greatest, is_due, longest_record, most_bytes, most_records, record_bytes}
 use Rattle.live_stage.specs.Staging.{AddsStep, AreStaged, AreTaken, IsAnswerOf, KeepsToBounds, file_begun, numbers_begun, numbers_staged}
-use Rattle.live_stage.proofs.GroupLaws.{MayFollow, asked_on, body_takes, body_few, file_bytes, file_records, file_snapshot}
+use Rattle.live_stage.proofs.GroupLaws.{MayFollow, asked_on, body_takes, body_few, file_bytes, file_put_off, file_records, file_snapshot}
 use Rattle.live_stage.proofs.GroupLaws.{may_follow_says, none_staged, staged_on, takes_as, took_on}
 use Rattle.live_stage.proofs.TurnLaws.{KeepsTo, keeps_to}
 
@@ -53,19 +53,26 @@ pub record IsStagedTo (D : Type 0) (begin : Begin) (s : State) (events : List Ev
 -- a file at which no checkpoint is due keeps to the bounds, and with one record more too
 undue_bounded : (file : FileNumbers) → is_due file ≡ false → KeepsToBounds file
 undue_bounded file undue =
-    let kept = keeps_to file undue in
-    record { few = omega (arith, kept.few); short = omega (arith, kept.short) }
+    record {
+      few = λ made. (let kept = keeps_to file made undue in omega (arith, kept.few));
+      short = λ made. (let kept = keeps_to file made undue in omega (arith, kept.short));
+    }
+
+put_off_before : (file : FileNumbers) (bodies all : List (List ℕ)) → (let f = file_with file all in f.is_put_off) ≡ false
+    → (let f = file_with file bodies in f.is_put_off) ≡ false
+put_off_before file bodies all is = file_put_off file bodies ∙ sym (file_put_off file all) ∙ is
 
 one_bounded : (p : Profile) (file : FileNumbers) (bodies : List (List ℕ)) (ops : List Op) → file.bytes ≤ greatest
     → is_due (file_with file bodies) ≡ false → record_bytes p ops ≤ longest_record → KeepsToBounds (file_with file (bodies ++ body_of p ops))
 one_bounded p file bodies ops fits undue short =
-    let kept = keeps_to (file_with file bodies) undue in
     let all = bodies ++ body_of p ops in
+    let kept = λ (made : (let f = file_with file all in f.is_put_off) ≡ false).
+    keeps_to (file_with file bodies) (put_off_before file bodies all made) undue in
     record {
-      few = omega (arith, kept.few, file_records file bodies, file_records file all, length-append bodies (body_of p ops), body_few p ops);
-      short = omega (
+      few = λ made. omega (arith, (kept made).few, file_records file bodies, file_records file all, length-append bodies (body_of p ops), body_few p ops);
+      short = λ made. omega (
         arith,
-        kept.short,
+        (kept made).short,
         short,
         fits,
         file_bytes file bodies fits,

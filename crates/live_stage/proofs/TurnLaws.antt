@@ -1,9 +1,9 @@
 -- A turn in two phases: it makes the checkpoint that is due, if one is, and then handles its event. Both write to the same file alone.
-use Rattle.std.proofs.Common.{◌≡◌, ◌⊎◌, inl, inr, ℕ, ◌+◌, ◌<◌, ◌≤◌, min, Bool, true, false, List, [], ◌∷◌, ◌++◌, length, length-append}
-use Rattle.std.proofs.Common.{Option, Some}
+use Rattle.std.proofs.Common.{◌≡◌, ◌⊎◌, inl, inr, ℕ, ◌+◌, ◌<◌, ◌≤◌, min, Bool, true, false, not, ◌&&◌, ◌||◌, nat_le, nat_lt, List, [], ◌∷◌}
+use Rattle.std.proofs.Common.{◌++◌, length, length-append, Option, Some}
 use Rattle.std.proofs.Common.{Result, Ok, Err, refl, sym, ap, subst, ◌∙◌, arith}
-use Rattle.std.specs.Prelude.{MatchBool}
-use Rattle.std.proofs.lemmas.Bool.{lt-leb, le-ltb, leb-false, ltb-false, or_from, or_parts}
+use Rattle.std.specs.Prelude.{MatchBool, if◌then◌else◌}
+use Rattle.std.proofs.lemmas.Bool.{and_right, lt-leb, le-ltb, leb-false, ltb-false, or_from, or_parts}
 use Rattle.std.proofs.lemmas.List.{nil_from_length}
 use Rattle.disk_model.specs.History.{Change}
 use Rattle.disk_model.specs.Moments.{LeftSince, Continues}
@@ -35,16 +35,19 @@ use Rattle.live_stage.specs.Writing.{file_of}
 -- below the limits nothing is
 pub undue : (file : FileNumbers) → file.records < most_records → file.bytes ≤ most_bytes file.snapshot_len → is_due file ≡ false
 undue file few short =
-    or_from _ _ (lt-leb most_records file.records few) (le-ltb (most_bytes file.snapshot_len) file.bytes short)
+    and_right (not file.is_put_off) _
+    (or_from _ _ (lt-leb most_records file.records few) (le-ltb (most_bytes file.snapshot_len) file.bytes short))
 
--- a file at which no checkpoint is due keeps to the limits
+-- a file at which no checkpoint is due keeps to the limits, unless one is put off
 pub record KeepsTo (file : FileNumbers) : Type 0 where
   pub few : file.records < most_records
   pub short : file.bytes ≤ most_bytes file.snapshot_len
 
-pub keeps_to : (file : FileNumbers) → is_due file ≡ false → KeepsTo file
-keeps_to file is =
-    let both = or_parts _ _ is in
+pub keeps_to : (file : FileNumbers) → file.is_put_off ≡ false → is_due file ≡ false → KeepsTo file
+keeps_to file made is =
+    let limits : Bool = nat_le most_records file.records || nat_lt (most_bytes file.snapshot_len) file.bytes in
+    let within : limits ≡ false = ap (λ (put_off : Bool). not put_off && limits) (sym made) ∙ is in
+    let both = or_parts _ _ within in
     record {
       few = leb-false most_records file.records both.0;
       short = ltb-false (most_bytes file.snapshot_len) file.bytes both.1;
@@ -52,6 +55,24 @@ keeps_to file is =
 
 pub ready_same : (s : SavedState) (file : FileNumbers) → is_due file ≡ false → ready_file s file ≡ file
 ready_same s file is = rw is refl
+
+-- ---- a checkpoint that is put off
+
+put_off_in : (b : Bool) (s : SavedState) (file : FileNumbers) → file.is_put_off ≡ false
+    → (let f : FileNumbers = if b then next_file s file else file in f.is_put_off) ≡ false
+put_off_in true s file is = refl
+put_off_in false s file is = is
+
+-- where none was put off, none is behind the checkpoint that was due
+pub ready_made : (s : SavedState) (file : FileNumbers) → file.is_put_off ≡ false → (let f = ready_file s file in f.is_put_off) ≡ false
+ready_made s file is = put_off_in (is_due file) s file is
+
+-- a record doesn't change whether one is
+pub put_off_recorded : (p : Profile) (file : FileNumbers) (ops : List Op) (put_off : Bool)
+    → (let f : FileNumbers = recorded p file ops in let g : FileNumbers = record f { is_put_off = put_off } in g)
+    ≡ (let f : FileNumbers = record file { is_put_off = put_off } in recorded p f ops)
+put_off_recorded p file [] put_off = refl
+put_off_recorded p file (op ∷ ops) put_off = refl
 
 -- ---- records
 
@@ -80,6 +101,7 @@ file_recorded p old new (op ∷ ops) some stays count bytes =
       snapshot_len = snapshot_len;
       records = records;
       bytes = bytes;
+      is_put_off = false;
     } in
     ap (λ (n : ℕ). numbers n new.snapshot_len new.count new.bytes) stays.generation
     ∙ ap (λ (n : ℕ). numbers old.generation n new.count new.bytes) stays.snapshot_len
@@ -100,6 +122,7 @@ file_laid faults old new layout s is =
       snapshot_len = snapshot_len;
       records = records;
       bytes = bytes;
+      is_put_off = false;
     } in
     ap (λ (n : ℕ). numbers n new.snapshot_len new.count new.bytes) is.generation
     ∙ ap (λ (n : ℕ). numbers (old.generation + 1) n new.count new.bytes) is.snapshot_len
@@ -115,6 +138,7 @@ file_made faults a b journal layout size s is long =
       snapshot_len = snapshot_len;
       records = records;
       bytes = bytes;
+      is_put_off = false;
     } in
     ap (λ (n : ℕ). numbers n journal.snapshot_len journal.count journal.bytes) is.generation
     ∙ ap (λ (n : ℕ). numbers 1 n journal.count journal.bytes) (is.snapshot_len ∙ long)
@@ -150,6 +174,7 @@ file_is journal is =
       snapshot_len = snapshot_len;
       records = records;
       bytes = bytes;
+      is_put_off = false;
     } in
     ap (λ (n : ℕ). numbers n journal.snapshot_len journal.count journal.bytes) (sym is.generation)
     ∙ ap (λ (n : ℕ). numbers content.generation n journal.count journal.bytes) (sym is.measured.snapshot)
@@ -161,9 +186,9 @@ pub record IsBounded (file : FileNumbers) : Type 0 where
   pub few : file.records ≤ most_records
   pub short : file.bytes ≤ most_bytes file.snapshot_len + longest_record
 
-pub bounded : (b : Bool) (p : Profile) (s : SavedState) (file after : FileNumbers) (ops : List Op) → is_due file ≡ b
+pub bounded : (b : Bool) (p : Profile) (s : SavedState) (file after : FileNumbers) (ops : List Op) → file.is_put_off ≡ false → is_due file ≡ b
     → after ≡ recorded p (ready_file s file) ops → record_bytes p ops ≤ longest_record → IsBounded after
-bounded true p s file after ops is made small =
+bounded true p s file after ops none is made small =
     let ready : ready_file s file ≡ next_file s file = rw is refl in
     let is_after : after ≡ recorded p (next_file s file) ops = made ∙ ap (λ (f : FileNumbers). recorded p f ops) ready in
     let one = recorded_one p (next_file s file) ops in
@@ -171,10 +196,10 @@ bounded true p s file after ops is made small =
       few = omega (arith, one.few);
       short = omega (arith, one.short, small);
     })
-bounded false p s file after ops is made small =
+bounded false p s file after ops none is made small =
     let is_after : after ≡ recorded p file ops = made ∙ ap (λ (f : FileNumbers). recorded p f ops) (ready_same s file is) in
     let one = recorded_one p file ops in
-    let kept = keeps_to file is in
+    let kept = keeps_to file none is in
     subst IsBounded (sym is_after) (record {
       few = omega (arith, one.few, kept.few);
       short = omega (arith, one.short, small, kept.short, ap most_bytes one.behind);
@@ -308,13 +333,15 @@ written_by : {D : Type 0} (history : D → List Change) (old ready new : LiveSta
     → new.file ≡ recorded p (ready_file old.state.machine.saved old.file) ops → record_bytes p ops ≤ longest_record
     → IsStored history new → IsWritten history old new ops
 written_by history old ready new p ops own first more file small stored =
-    let bounds : IsBounded new.file = bounded (is_due old.file) p old.state.machine.saved old.file new.file ops refl file small in
+    let bounds : old.file.is_put_off ≡ false → IsBounded new.file =
+    λ none. bounded (is_due old.file) p old.state.machine.saved old.file new.file ops none refl file small in
     record {
       says = more ∙ ap (λ (k : Content). recorded_content p k ops) first
           ∙ ap (λ (q : Profile). recorded_content q (ready_content old) ops) (sym own);
       stored = stored;
-      few = subst (λ (f : FileNumbers). f.records ≤ most_records) stored.file bounds.few;
-      short = subst (λ (f : FileNumbers). f.bytes ≤ most_bytes f.snapshot_len + longest_record) stored.file bounds.short;
+      few = λ none. (let kept = bounds none in subst (λ (f : FileNumbers). f.records ≤ most_records) stored.file kept.few);
+      short = λ none. (let kept = bounds none in
+          subst (λ (f : FileNumbers). f.bytes ≤ most_bytes f.snapshot_len + longest_record) stored.file kept.short);
     }
 
 module _ {D : Type 0} (old ready new : LiveState D) (event : Event) (got : IsReady old ready) where

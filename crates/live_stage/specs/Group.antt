@@ -184,12 +184,12 @@ abbrev pub IsOfFront : List Entry → List Event → List Event → Type 0
 IsOfFront whole events rest = (more : List Event) × (events ≡ events_in whole ++ more ++ rest)
 
 -- From its `Ok` on whatever a crash leaves says the records of all its events, behind the snapshot that was due, if one was. Where it has
--- answers, there are at most so many records, and they take no more bytes than the bound and one record.
+-- answers and no checkpoint is put off, there are at most so many records, and they take no more bytes than the bound and one record.
 pub record IsGroupWritten {D : Type 0} (history : D → List Change) (old new : LiveState D) (turns : List Answer) : Type 0 where
   pub says : new.content ≡ with_records (group_content old turns) (bodies_after old.state (history_in turns))
   pub stored : IsStored history new
-  pub few : turns ≢ [] → length new.content.records ≤ most_records
-  pub short : turns ≢ []
+  pub few : turns ≢ [] → old.file.is_put_off ≡ false → length new.content.records ≤ most_records
+  pub short : turns ≢ [] → old.file.is_put_off ≡ false
       → records_len new.content.records ≤ most_bytes (length new.content.snapshot) + longest_record
 
 -- what a refused group is refused with, as a turn would be

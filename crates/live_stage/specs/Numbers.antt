@@ -1,5 +1,5 @@
 -- The numbers by which a stage counts, and which can be spent.
-use Rattle.std.specs.Prelude.{◌≡◌, ◌⊎◌, ℕ, ◌+◌, ◌-◌, ◌^◌, min, max, Bool, true, ◌||◌, List, [], ◌∷◌, length}
+use Rattle.std.specs.Prelude.{◌≡◌, ◌⊎◌, ℕ, ◌+◌, ◌-◌, ◌^◌, min, max, Bool, true, false, not, ◌&&◌, ◌||◌, List, [], ◌∷◌, length}
 use Rattle.std.specs.Prelude.{Option, Some, None, nat_le, nat_lt, if◌then◌else◌}
 use Rattle.profile.specs.declared.profile.Profile.{Profile}
 use Rattle.state_codec.specs.declared.op.Op.{Op}
@@ -14,13 +14,14 @@ pub record Numbers : Type 0 where
   pub event : ℕ
   pub last_record : ℕ
 
--- The generation of the file to which records go, the length of its snapshot, how many records stand behind that, and how many bytes
--- they take.
+-- The generation of the file to which records go, the length of its snapshot, how many records stand behind that, how many bytes they take,
+-- and whether a checkpoint is put off, since the disk has no room for it.
 pub record FileNumbers : Type 0 where
   pub generation : ℕ
   pub snapshot_len : ℕ
   pub records : ℕ
   pub bytes : ℕ
+  pub is_put_off : Bool
 
 -- no number is greater
 abbrev pub greatest : ℕ
@@ -39,7 +40,7 @@ abbrev pub checkpoint_calls : SavedState → ℕ
 checkpoint_calls s = 8 + most_pieces (snapshot_size s)
 
 abbrev pub first_file : SavedState → FileNumbers
-first_file s = record { generation = 1; snapshot_len = snapshot_size s; records = 0; bytes = 0 }
+first_file s = record { generation = 1; snapshot_len = snapshot_size s; records = 0; bytes = 0; is_put_off = false }
 
 -- those of a stage that was just opened over files that give this
 abbrev pub numbers_found : Content → Numbers
@@ -52,6 +53,7 @@ file_found content =
       snapshot_len = length content.snapshot;
       records = length content.records;
       bytes = records_len content.records;
+      is_put_off = false;
     }
 
 -- The numbers after an event with these ops: it is counted, and so is its record, where its ops make one.
@@ -76,13 +78,17 @@ most_bytes snapshot_len = max 4194304 snapshot_len
 abbrev pub longest_record : ℕ
 longest_record = 5 + longest_body
 
--- whether the next turn makes a checkpoint first
+-- whether the next turn makes a checkpoint first: one that is put off isn't made
 abbrev pub is_due : FileNumbers → Bool
-is_due file = nat_le most_records file.records || nat_lt (most_bytes file.snapshot_len) file.bytes
+is_due file = not file.is_put_off && (nat_le most_records file.records || nat_lt (most_bytes file.snapshot_len) file.bytes)
+
+-- a checkpoint that is due is put off
+abbrev pub put_off : FileNumbers → FileNumbers
+put_off file = if is_due file then record file { is_put_off = true } else file
 
 -- those of the file that a checkpoint of this state lays down
 abbrev pub next_file : SavedState → FileNumbers → FileNumbers
-next_file s file = record { generation = file.generation + 1; snapshot_len = snapshot_size s; records = 0; bytes = 0 }
+next_file s file = record { generation = file.generation + 1; snapshot_len = snapshot_size s; records = 0; bytes = 0; is_put_off = false }
 
 -- those of the file to which a turn's record goes, before which the state is this
 abbrev pub ready_file : SavedState → FileNumbers → FileNumbers

@@ -29,7 +29,14 @@ use Rattle.live_stage.specs.Writing.{file_of}
 
 -- the numbers with which a group began; nobody asks for the generation of its file
 abbrev pub file_begun : Begin → FileNumbers
-file_begun begin = record { generation = 0; snapshot_len = begin.snapshot_len; records = begin.records; bytes = begin.bytes }
+file_begun begin =
+    record {
+      generation = 0;
+      snapshot_len = begin.snapshot_len;
+      records = begin.records;
+      bytes = begin.bytes;
+      is_put_off = begin.is_put_off;
+    }
 
 abbrev pub numbers_begun : Begin → Numbers
 numbers_begun begin = record { event = begin.event; last_record = begin.last_record }
@@ -43,6 +50,7 @@ begin_of old =
       snapshot_len = old.file.snapshot_len;
       records = old.file.records;
       bytes = old.file.bytes;
+      is_put_off = old.file.is_put_off;
     }
 
 -- the numbers behind so many events with these records
@@ -84,8 +92,8 @@ pub record AreStaged (D : Type 0) (begin : Begin) (s : State) (turns : List Answ
 
 -- a file keeps to the bounds behind a turn that made the checkpoint that was due, if one was
 pub record KeepsToBounds (file : FileNumbers) : Type 0 where
-  pub few : file.records ≤ most_records
-  pub short : file.bytes ≤ most_bytes file.snapshot_len + longest_record
+  pub few : file.is_put_off ≡ false → file.records ≤ most_records
+  pub short : file.is_put_off ≡ false → file.bytes ≤ most_bytes file.snapshot_len + longest_record
 
 -- Events were taken as long as they might be.
 pub record AreTaken (begin : Begin) (s : State) (events : List Event) (turns : List Answer) (is_refused : Bool) (rest : List Event)

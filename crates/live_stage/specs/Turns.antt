@@ -1,11 +1,11 @@
 -- How a stage goes on from one call to the next.
-use Rattle.std.specs.Prelude.{◌≡◌, ◌≢◌, ◌⊎◌, ◌↔◌, ◌≤◌, true, false, not, Bool, ℕ, ◌+◌, ◌==◌, List, [], ◌∷◌, length, Some, Result, Err}
+use Rattle.std.specs.Prelude.{◌≡◌, ◌≢◌, ◌⊎◌, ◌↔◌, ◌≤◌, true, false, not, Bool, ℕ, ◌+◌, ◌*◌, ◌==◌, List, [], ◌∷◌, length, Some, Result, Err}
 use Rattle.std.specs.Prelude.{IfOk, OnOk, OnErr, IfErr, MatchBool, if◌then◌else◌}
 use Rattle.disk_model.specs.History.{Change}
 use Rattle.disk_model.specs.Later.{HasFailed}
 use Rattle.play_journal.specs.Calls.{SameFaults}
 use Rattle.play_journal.specs.Content.{Content, last_record, with_record, with_snapshot, IsEither}
-use Rattle.play_journal.specs.File.{records_len}
+use Rattle.play_journal.specs.File.{records_len, spelling}
 use Rattle.play_journal.specs.JournalState.{JournalState}
 use Rattle.play_journal.specs.Pair.{AllPairsNow, AllPairsSince}
 use Rattle.profile.specs.declared.profile.Profile.{Profile}
@@ -19,7 +19,7 @@ use Rattle.live_stage.specs.declared.refusal.LiveError.TheVariants.{Broken, NoMe
 use Rattle.live_stage.specs.Answer.{Answer}
 use Rattle.live_stage.specs.Found.{state_of}
 use Rattle.live_stage.specs.LiveState.{LiveState}
-use Rattle.live_stage.specs.Numbers.{AreSpent, greatest, is_due, most_records, most_bytes, longest_record, next_file}
+use Rattle.live_stage.specs.Numbers.{AreSpent, FileNumbers, greatest, is_due, most_records, most_bytes, longest_record, next_file}
 use Rattle.live_stage.specs.Numbers.{ready_file, file_found, numbers_found}
 
 -- a stage that begins with what was kept, and had no event yet
@@ -34,7 +34,7 @@ pub record IsStored {D : Type 0} (history : D → List Change) (live : LiveState
   pub kept : AllPairsNow (λ f. f ≡ Some live.content) (history live.a) (history live.b)
   pub layout : live.content.layout ≡ written_layout live.state.machine.saved.profile
   pub state : state_of (Some live.content) ≡ Some live.state.machine.saved
-  pub file : live.file ≡ file_found live.content
+  pub file : live.file ≡ record (file_found live.content) { is_put_off = live.file.is_put_off }
   pub numbered : live.numbers.last_record ≡ last_record live.content
 
 -- whether a journal of this layout is brought to the one that is written when it is opened
@@ -150,12 +150,13 @@ pub record MakesNoCall {D : Type 0} (old new : LiveState D) : Type 0 where
   pub same_b : new.b ≡ old.b
 
 -- From its `Ok` on whatever a crash leaves says the record of its ops, behind the snapshot that was due, if one was. There are at most so
--- many records, and they take no more bytes than the bound and one record.
+-- many records, and they take no more bytes than the bound and one record, unless a checkpoint is put off for want of room.
 pub record IsWritten {D : Type 0} (history : D → List Change) (old new : LiveState D) (ops : List Op) : Type 0 where
   pub says : new.content ≡ recorded_content new.state.machine.saved.profile (ready_content old) ops
   pub stored : IsStored history new
-  pub few : length new.content.records ≤ most_records
-  pub short : records_len new.content.records ≤ most_bytes (length new.content.snapshot) + longest_record
+  pub few : old.file.is_put_off ≡ false → length new.content.records ≤ most_records
+  pub short : old.file.is_put_off ≡ false
+      → records_len new.content.records ≤ most_bytes (length new.content.snapshot) + longest_record
 
 -- A disk fault breaks a stage, any other refusal leaves it as it was, and no refused event is counted.
 pub record LeavesAsIs {D T : Type 0} (old new : LiveState D) (result : Result T LiveError) : Type 0 where
@@ -180,3 +181,53 @@ pub record RefusesInOrder {D T : Type 0} (old new : LiveState D) (result : Resul
 pub record RefusesToTell {D T : Type 0} (live : LiveState D) (result : Result T LiveError) : Type 0 where
   pub broken : (result ≡ Err Broken) ↔ (live.is_broken ≡ true)
   pub nothing_else : IfErr result (λ e. (e ≡ Broken) ⊎ (e ≡ NoMemory))
+
+-- ---- room
+
+-- how many bytes of records there is room for behind what the files say: those of two groups, each of two records at most
+abbrev pub room_kept : ℕ
+room_kept = 4 * longest_record
+
+-- and with how many a record may be added, and a group behind it
+abbrev pub room_enough : ℕ
+room_enough = 3 * longest_record
+
+-- the file in use has so many bytes behind its closing gate
+abbrev pub HasBehind : {D : Type 0} → (D → List ℕ) → ℕ → LiveState D → Type 0
+HasBehind content bytes live = length (spelling live.content) + 1 + bytes ≤ length (content (if live.is_in_b then live.b else live.a))
+
+-- all but the disks is as it was
+pub record CallsDisksAlone {D : Type 0} (old new : LiveState D) : Type 0 where
+  pub state : new.state ≡ old.state
+  pub numbers : new.numbers ≡ old.numbers
+  pub file : new.file ≡ old.file
+  pub same_file : new.is_in_b ≡ old.is_in_b
+  pub usable : new.is_broken ≡ false
+
+-- the file in use isn't touched
+abbrev pub KeepsFileInUse : {D : Type 0} → LiveState D → LiveState D → Type 0
+KeepsFileInUse old new = MatchBool old.is_in_b (new.b ≡ old.b) (new.a ≡ old.a)
+
+-- a checkpoint was made, or there was no room for it, and all but the disks is as it was
+abbrev pub MakesOrNot : {D : Type 0} → Bool → LiveState D → LiveState D → Type 0
+MakesOrNot is_made old new = MatchBool is_made (IsCheckpointed old new) (CallsDisksAlone old new)
+
+-- as if no checkpoint were put off
+abbrev pub taken_up : FileNumbers → FileNumbers
+taken_up file = record file { is_put_off = false }
+
+-- Room was looked for: the checkpoint that was due was made, or is put off, so that none is due; where none was, all but the disks is as
+-- it was, and none is put off.
+pub record LooksForRoom {D : Type 0} (old new : LiveState D) : Type 0 where
+  pub state : new.state ≡ old.state
+  pub numbers : new.numbers ≡ old.numbers
+  pub file : (new.file ≡ next_file old.state.machine.saved old.file) ⊎ (new.file ≡ record old.file { is_put_off = new.file.is_put_off })
+  pub undue : is_due new.file ≡ false
+  pub kept : is_due (taken_up old.file) ≡ false → new.file ≡ taken_up old.file
+  pub usable : new.is_broken ≡ false
+
+-- There is room: no checkpoint is due, or is put off, and the file in use has so many bytes behind its closing gate.
+pub record HasRoom {D : Type 0} (content : D → List ℕ) (live : LiveState D) : Type 0 where
+  pub made : live.file.is_put_off ≡ false
+  pub undue : is_due live.file ≡ false
+  pub behind : HasBehind content room_kept live

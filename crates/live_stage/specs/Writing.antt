@@ -43,7 +43,7 @@ pub record TakesRecord {D : Type 0} (journal : JournalState D) (size : ℕ) : Ty
   pub numbers : journal.base + journal.count < 2 ^ 64 - 1
   pub fits : size ≤ longest_body
 
--- the numbers of the file that is in use
+-- the numbers of the file that is in use, where no checkpoint is put off
 abbrev pub file_of : {D : Type 0} → JournalState D → FileNumbers
 file_of journal =
     record {
@@ -51,6 +51,7 @@ file_of journal =
       snapshot_len = journal.snapshot_len;
       records = journal.count;
       bytes = journal.bytes;
+      is_put_off = false;
     }
 
 -- the record of these ops was written, if there are any, and this is its number

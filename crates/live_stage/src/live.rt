@@ -33,6 +33,7 @@ use std::alloc::Global;
 use std::marker::Model;
 use std::snapshot::Snapshot;
 
+mod ahead;
 mod grouping;
 mod looks;
 mod opening;
@@ -51,6 +52,8 @@ pub struct Live<D: Disk> {
     group: Group,
     event: u64,
     migrated: bool,
+    // A checkpoint is due for which the disk has no room.
+    put_off: bool,
 }
 
 impl<D: Disk> Model for Live<D> {
@@ -70,7 +73,7 @@ impl<D: Disk> Model for Live<D> {
         event = v.event;
         last_record = min (v.journal.base + v.journal.count) (2 ^ 64 - 1);
       };
-      file = file_of v.journal;
+      file = record (file_of v.journal) { is_put_off = v.put_off };
       content = v.journal.content;
       is_in_b = v.journal.is_in_b;
       is_broken = v.journal.is_spent;
@@ -142,6 +145,7 @@ impl<D: Disk> Live<D> {
                 group,
                 event: 0,
                 migrated: false,
+                put_off: false,
             }),
             Err(refused) => Err(refused_start(refused)),
         }
@@ -278,17 +282,19 @@ impl<D: Disk> Live<D> {
             return Err(LiveError::NumbersSpent);
         }
         write_snapshot(&mut self.journal, self.core.as_saved())?;
+        self.put_off = false;
         Ok(())
     }
 
-    // Whether a checkpoint is due.
-    fn is_checkpoint_due(&self) -> bool
+    /// Whether the next turn makes a checkpoint first. It takes no memory and refuses nothing.
+    pub fn is_checkpoint_due(&self) -> bool
         ensures { result ≡ is_due self.now.file }
     {
         is_due_at(
             self.journal.records_since_checkpoint(),
             self.journal.bytes_since_checkpoint(),
             self.journal.snapshot_len(),
+            self.put_off,
         )
     }
 
@@ -399,6 +405,7 @@ impl<D: Disk> Live<D> {
             group: _,
             event: _,
             migrated: _,
+            put_off: _,
         } = self;
         journal.into_disks()
     }

@@ -36,6 +36,7 @@ pub(crate) struct Begin {
     pub(crate) snapshot_len: u64,
     pub(crate) records: u64,
     pub(crate) bytes: u64,
+    pub(crate) is_put_off: bool,
 }
 
 // Puts the record of an event's ops behind the others of the group, and answers its number; where there are none, there is no record.
@@ -141,15 +142,22 @@ fn may_follow_on(
     ensures { result ≡ may_follow (file_with (file_begun begin) group.now) (numbers_staged begin many group.now)
         (records_len group.now) bytes looks has_ended }
 {
-    let records = begin.records.saturating_add(group.records());
-    let record_bytes = begin.bytes.saturating_add(group.bytes());
-    !is_due_at(records, record_bytes, begin.snapshot_len)
+    !is_due_behind(group, begin)
         && begin.event + many != u64::MAX
         && begin.last_record + group.records() != u64::MAX
         && group.bytes() <= LONGEST_RECORD
         && bytes <= MOST_ANSWER_BYTES
         && looks <= MAX_LOOKS
         && !has_ended
+}
+
+// Whether a checkpoint is due behind these records of a group.
+fn is_due_behind(group: &Group, begin: Begin) -> bool
+    ensures { result ≡ is_due (file_with (file_begun begin) group.now) }
+{
+    let records = begin.records.saturating_add(group.records());
+    let record_bytes = begin.bytes.saturating_add(group.bytes());
+    is_due_at(records, record_bytes, begin.snapshot_len, begin.is_put_off)
 }
 
 /// Steps events in memory, in order, and puts their records into the group, as long as another may follow. It answers whether the one

@@ -40,6 +40,7 @@ pub record IsLawful (m : MachineState) (x : Meaning) : Type 0 where
   pub rebuilt : all_applied x.ops m.saved ≡ Some x.after.saved
   pub tells : IsSavedState m.saved → TellsChanges m x
   pub place : x.after.job.number ≡ m.job.number → x.after.job.place ≡ m.job.place
+  pub room : x.after.has_room ≡ m.has_room
 
 abbrev pub Lawful : MachineState → Meant → Type 0
 Lawful m meant = Holds IsLawful m meant
@@ -61,19 +62,19 @@ stays_told m x empty same = record {
 
 -- lines alone
 pub says_lawful : (text : List ℕ) (m : MachineState) → IsLawful m (stands text m)
-says_lawful text m = record { rebuilt = refl; tells = λ kept. stays_told m (stands text m) refl refl; place = λ e. refl }
+says_lawful text m = record { rebuilt = refl; tells = λ kept. stays_told m (stands text m) refl refl; place = λ e. refl; room = refl }
 
 -- the player alone changes
 pub turns_lawful : (player : PlayerState) (m : MachineState) → Lawful m (turns player m)
-turns_lawful player m = record { rebuilt = refl; tells = λ kept. stays_told m _ refl refl; place = λ e. refl }
+turns_lawful player m = record { rebuilt = refl; tells = λ kept. stays_told m _ refl refl; place = λ e. refl; room = refl }
 
 -- a job begins under a number of its own
 pub begins_lawful : (job : Job) (text : List ℕ) (m : MachineState) → (job.number ≡ m.job.number → ⊥) → Lawful m (begins job text m)
-begins_lawful job text m own = record { rebuilt = refl; tells = λ kept. stays_told m _ refl refl; place = λ e. absurd (own e) }
+begins_lawful job text m own = record { rebuilt = refl; tells = λ kept. stays_told m _ refl refl; place = λ e. absurd (own e); room = refl }
 
 -- a job waits
 pub waits_lawful : (job : WaitingJob) (text : List ℕ) (m : MachineState) → Lawful m (waits job text m)
-waits_lawful job text m = record { rebuilt = refl; tells = λ kept. stays_told m _ refl refl; place = λ e. refl }
+waits_lawful job text m = record { rebuilt = refl; tells = λ kept. stays_told m _ refl refl; place = λ e. refl; room = refl }
 
 -- what an edit does to the saved half
 abbrev done : Op → Option ℕ → SavedState → SavedState
@@ -216,4 +217,5 @@ edited_lawful op text m fits free changes = record {
   rebuilt = done_rebuilt op (followed op m).order m.saved free;
   tells = edited_tells op text (followed op m) m fits (followed_apart op m) free changes;
   place = λ e. refl;
+  room = refl;
 }

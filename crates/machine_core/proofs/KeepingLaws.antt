@@ -32,7 +32,7 @@ use Rattle.machine_core.specs.Keeping.{begin_ops, goes_on, if_kept, keep_ops, ke
 use Rattle.machine_core.specs.Keeping.{round_ops, telling_ops, with_ops}
 use Rattle.machine_core.specs.Size.{longest_keep, longest_place, room_by, time_room}
 use Rattle.machine_core.specs.Sound.{IsSound, IsSoundMachine, IsSoundPlayer}
-use Rattle.machine_core.specs.State.{MachineState}
+use Rattle.machine_core.specs.State.{keeping, lacks_room, MachineState}
 
 -- ---- where nothing has changed nothing is kept
 
@@ -59,10 +59,35 @@ none_kept : (profile : Profile) → if_kept profile [] ≡ []
 none_kept Named = refl
 none_kept Wide = refl
 
+-- a profile that keeps is the machine's, and one that keeps nothing is so in both ways
+pub kept_wide : (m : MachineState) → keeping m ≡ Wide → m.saved.profile ≡ Wide
+kept_wide m = of (lacks_room m)
+  where
+    of : (b : Bool) → cond b Named m.saved.profile ≡ Wide → m.saved.profile ≡ Wide
+    of true is = absurd (cc)
+    of false is = is
+
+pub keeping_named : (m : MachineState) → m.saved.profile ≡ Named → keeping m ≡ Named
+keeping_named m named = of (lacks_room m)
+  where
+    of : (b : Bool) → cond b Named m.saved.profile ≡ Named
+    of true = refl
+    of false = named
+
+pub keeping_room : (m : MachineState) → lacks_room m ≡ false → keeping m ≡ m.saved.profile
+keeping_room m room = ap (λ (b : Bool). cond b Named m.saved.profile) room
+
+pub wide_room : (m : MachineState) → keeping m ≡ Wide → lacks_room m ≡ false
+wide_room m = of (lacks_room m)
+  where
+    of : (b : Bool) → cond b Named m.saved.profile ≡ Wide → b ≡ false
+    of true is = absurd (cc)
+    of false is = refl
+
 pub keep_itself : (m : MachineState) → keep_ops m m ≡ []
 keep_itself m =
-    ap (λ b. if_kept m.saved.profile (cond b [] (place_ops m.player.current m.player m.saved m.saved.place))) (going_itself m)
-    ∙ none_kept m.saved.profile
+    ap (λ b. if_kept (keeping m) (cond b [] (place_ops m.player.current m.player m.saved m.saved.place))) (going_itself m)
+    ∙ none_kept (keeping m)
 
 pub kept_nothing : (m : MachineState) → kept_event m (nothing_happens m) ≡ nothing_happens m
 kept_nothing m = ap (λ ops. record (nothing_happens m) { ops = ops; after = with_ops ops m }) (keep_itself m)
@@ -74,7 +99,7 @@ told_ops m n place = telling_ops (round_ops m.player.current place.played n.play
 
 pub keep_when : (R : List Op → Type 0) (m n : MachineState) → R []
     → ((place : PlaceState) → n.saved.place ≡ Some place → R (told_ops m n place)) → R (keep_ops m n)
-keep_when R m n none some = by_profile m.saved.profile
+keep_when R m n none some = by_profile (keeping m)
   where
     from : (place : Option PlaceState) → n.saved.place ≡ place → R (place_ops m.player.current n.player n.saved place)
     from None is = none
@@ -115,7 +140,7 @@ Applies s ops = all_applied ops s ≡ Some (after_all ops s)
 
 pub keep_applied : (m n : MachineState) → n.saved.profile ≡ m.saved.profile
     → all_applied (keep_ops m n) n.saved ≡ Some (after_all (keep_ops m n) n.saved)
-keep_applied m n same = by_profile m.saved.profile same
+keep_applied m n same = by_profile (keeping m) (λ is. same ∙ kept_wide m is)
   where
     from : (place : Option PlaceState) → n.saved.profile ≡ Wide → Applies n.saved (place_ops m.player.current n.player n.saved place)
     from None wide = refl
@@ -127,10 +152,10 @@ keep_applied m n same = by_profile m.saved.profile same
     by_going true wide = refl
     by_going false wide = from n.saved.place wide
 
-    by_profile : (p : Profile) → n.saved.profile ≡ p
+    by_profile : (p : Profile) → (p ≡ Wide → n.saved.profile ≡ Wide)
         → Applies n.saved (if_kept p (cond (goes_on m n) [] (place_ops m.player.current n.player n.saved n.saved.place)))
-    by_profile Named named = refl
-    by_profile Wide wide = by_going (goes_on m n) wide
+    by_profile Named wide = refl
+    by_profile Wide wide = by_going (goes_on m n) (wide refl)
 
 -- ---- they change nothing but the place
 
@@ -280,7 +305,7 @@ keep_short profile m n = omega (arith, keep_few profile m n)
 pub keep_none : (m n : MachineState) → m.saved.profile ≡ Named → length (ops_bytes m.saved.profile (keep_ops m n)) ≡ 0
 keep_none m n named =
     let none : keep_ops m n ≡ [] =
-    ap (λ p. if_kept p (cond (goes_on m n) [] (place_ops m.player.current n.player n.saved n.saved.place))) named in
+    ap (λ p. if_kept p (cond (goes_on m n) [] (place_ops m.player.current n.player n.saved n.saved.place))) (keeping_named m named) in
     ap (λ ops. length (ops_bytes m.saved.profile ops)) none
 
 -- so they leave room for a time of the room that is kept free
@@ -300,7 +325,7 @@ place_placed before player s None = record { place = s.place; same = refl }
 place_placed before player s (Some place) = telling_placed (round_ops before place.played player.played ++ put_op player ∷ []) s
 
 pub at_placed : (m : MachineState) → let h = keeps_place m in IsPlaced m.saved h.after.saved
-at_placed m = by_profile m.saved.profile
+at_placed m = by_profile (keeping m)
   where
     by_profile : (p : Profile)
         → IsPlaced m.saved (after_all (if_kept p (place_ops m.player.current m.player m.saved m.saved.place)) m.saved)
@@ -319,7 +344,7 @@ at_holds m holds =
     (record { queue = holds.queue; sound = holds.sound; frame = holds.frame })
 
 pub at_applied : (m : MachineState) → let h = keeps_place m in all_applied h.ops m.saved ≡ Some h.after.saved
-at_applied m = by_profile m.saved.profile refl
+at_applied m = by_profile (keeping m) (λ is. kept_wide m is)
   where
     from : (place : Option PlaceState) → m.saved.profile ≡ Wide
         → Applies m.saved (place_ops m.player.current m.player m.saved place)
@@ -327,13 +352,13 @@ at_applied m = by_profile m.saved.profile refl
     from (Some place) wide =
         ap result_ok (telling_applied 0 (round_ops m.player.current place.played m.player.played ++ put_op m.player ∷ []) m.saved wide)
 
-    by_profile : (p : Profile) → m.saved.profile ≡ p
+    by_profile : (p : Profile) → (p ≡ Wide → m.saved.profile ≡ Wide)
         → Applies m.saved (if_kept p (place_ops m.player.current m.player m.saved m.saved.place))
-    by_profile Named named = refl
-    by_profile Wide wide = from m.saved.place wide
+    by_profile Named wide = refl
+    by_profile Wide wide = from m.saved.place (wide refl)
 
 pub at_short : (profile : Profile) (m : MachineState) → let h = keeps_place m in length (ops_bytes profile h.ops) ≤ longest_keep
-at_short profile m = by_profile m.saved.profile
+at_short profile m = by_profile (keeping m)
   where
     by_profile : (p : Profile)
         → length (ops_bytes profile (if_kept p (place_ops m.player.current m.player m.saved m.saved.place))) ≤ longest_keep

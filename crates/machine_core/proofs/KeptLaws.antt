@@ -28,7 +28,7 @@ use Rattle.machine_core.specs.Happening.{nothing_happens}
 use Rattle.machine_core.specs.Keeping.{if_kept, keep_ops, keeps, keeps_place, kept, place_ops, put_op, round_ops, telling_ops, times}
 use Rattle.machine_core.specs.Keeping.{when_kept}
 use Rattle.machine_core.specs.Meaning.{Meaning, Meant}
-use Rattle.machine_core.specs.State.{MachineState}
+use Rattle.machine_core.specs.State.{keeping, MachineState}
 use Rattle.machine_core.proofs.CommandLaws.{command_lawful}
 use Rattle.machine_core.proofs.FormLaws.{IsLawful, Lawful}
 use Rattle.machine_core.proofs.KeepingLaws.{keep_applied, keep_placed, keep_when}
@@ -249,8 +249,8 @@ kept_none m n = keep_when (λ ops. after_all ops n.saved ≡ n.saved → ops ≡
 
 -- ---- where the player is now is kept
 
-at_none : (m : MachineState) → let h = keeps_place m in h.after.saved ≡ m.saved → h.ops ≡ []
-at_none m = by_profile m.saved.profile
+pub at_none : (m : MachineState) → let h = keeps_place m in h.after.saved ≡ m.saved → h.ops ≡ []
+at_none m = by_profile (keeping m)
   where
     from : (place : Option PlaceState) → m.saved.place ≡ place
         → let ops = place_ops m.player.current m.player m.saved place in after_all ops m.saved ≡ m.saved → ops ≡ []

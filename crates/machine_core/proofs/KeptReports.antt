@@ -27,7 +27,7 @@ use Rattle.machine_core.specs.Keeping.{if_kept, keep_ops, keep_ops_since, keeps,
 use Rattle.machine_core.specs.Meaning.{Meaning, Meant, order_ops}
 use Rattle.machine_core.specs.Reports.{happens}
 use Rattle.machine_core.specs.Size.{max_request_bytes}
-use Rattle.machine_core.specs.State.{MachineState}
+use Rattle.machine_core.specs.State.{keeping, MachineState}
 use Rattle.machine_core.specs.Steps.{consume_ops, moves, removal_ops, single_ops, steps}
 use Rattle.machine_core.specs.Work.{Performs, Went}
 use Rattle.machine_core.specs.declared.changed.Before.{Before}
@@ -74,7 +74,7 @@ pub kept_same : (m n : MachineState) → changed m (with_ops (keep_ops m n) n) �
 kept_same m n = let placed = keep_placed m n in placed_same m n _ placed
 
 -- told by what is kept of the machine before
-pub keep_ops_are : (m n : MachineState) (profile : Profile) (before : Before) → profile ≡ m.saved.profile → before ≡ before_of m
+pub keep_ops_are : (m n : MachineState) (profile : Profile) (before : Before) → profile ≡ keeping m → before ≡ before_of m
     → if_kept profile (keep_ops_since before n) ≡ keep_ops m n
 keep_ops_are m n profile before under is = λ i. if_kept (under i) (keep_ops_since (is i) n)
 
@@ -158,7 +158,7 @@ ok_is x y e = cc
 -- a step of the player was made, and where the player is then is kept
 pub kept_step_happened : (s : Step) (m n k : MachineState) (w d e : Work) (r : Result (Unit {0}) Failure) (profile : Profile)
     (happened : Happened) (before : Before) (made : List Op) → IsLawful m (steps s m) → IsSavedState m.saved → w.ops.items ≡ []
-    → is_err r ≡ false → Performs (moves (Ok s) m) m n w d r → profile ≡ m.saved.profile → before ≡ before_of m
+    → is_err r ≡ false → Performs (moves (Ok s) m) m n w d r → profile ≡ keeping m → before ≡ before_of m
     → k ≡ with_ops (if_kept profile (keep_ops_since before n)) n
     → e.ops.items ≡ d.ops.items ++ if_kept profile (keep_ops_since before n) → happened.ops.items ≡ e.ops.items → made ≡ e.ops.items
     → happened.changed ≡ changed_since before made k → HasHappened (kept_event m (happens (steps s m) m)) m k happened

@@ -17,7 +17,8 @@ use Rattle.state_codec.proofs.AppliedLaws.{all_applied-append}
 use Rattle.machine_core.specs.Before.{is_of_lists}
 use Rattle.machine_core.specs.Keeping.{if_kept, time_ops, times, with_ops}
 use Rattle.machine_core.specs.Meaning.{Meaning}
-use Rattle.machine_core.specs.State.{MachineState}
+use Rattle.machine_core.specs.State.{keeping, MachineState}
+use Rattle.machine_core.proofs.KeepingLaws.{kept_wide}
 
 -- the op that tells what the clock told
 abbrev pub time_op : Meaning → Op
@@ -35,7 +36,7 @@ pub record AddsTime (m : MachineState) (z x : Meaning) : Type 0 where
   pub is : x ≡ with_time_op z
 
 pub times_are : (m : MachineState) (z : Meaning) → (times m z ≡ z) ⊎ AddsTime m z (times m z)
-times_are m z = of m.saved.profile refl (list_any is_of_lists z.ops) refl (changes_nothing (time_op z) z.after.saved) refl
+times_are m z = of (keeping m) (λ is. kept_wide m is) (list_any is_of_lists z.ops) refl (changes_nothing (time_op z) z.after.saved) refl
   where
     by : List Op → Meaning
     by ops = record z { ops = z.ops ++ ops; after = with_ops ops z.after }
@@ -43,14 +44,14 @@ times_are m z = of m.saved.profile refl (list_any is_of_lists z.ops) refl (chang
     none : by [] ≡ z
     none = ap (λ (ops : List Op). record z { ops = ops }) (append-nil z.ops)
 
-    of : (p : Profile) → m.saved.profile ≡ p → (b : Bool) → list_any is_of_lists z.ops ≡ b
+    of : (p : Profile) → (p ≡ Wide → m.saved.profile ≡ Wide) → (b : Bool) → list_any is_of_lists z.ops ≡ b
         → (c : Bool) → changes_nothing (time_op z) z.after.saved ≡ c
         → (by (if_kept p (cond b (cond c [] (time_op z ∷ [])) [])) ≡ z)
         ⊎ AddsTime m z (by (if_kept p (cond b (cond c [] (time_op z ∷ [])) [])))
     of Named named b has c changes = inl none
     of Wide wide false has c changes = inl none
     of Wide wide true has true changes = inl none
-    of Wide wide true has false changes = inr (record { wide = wide; lists = has; changes = changes; is = refl })
+    of Wide wide true has false changes = inr (record { wide = wide refl; lists = has; changes = changes; is = refl })
 
 -- what holds of a meaning, and of one behind which the op is made, holds with the times
 pub times_keep : (R : Meaning → Type 0) (m : MachineState) (z : Meaning) → R z
@@ -92,4 +93,4 @@ front_none [] more none = refl
 front_none (op ∷ ops) more none = absurd (cc)
 
 pub none_behind : (m : MachineState) (z : Meaning) → (times m z).ops ≡ [] → z.ops ≡ []
-none_behind m z empty = front_none z.ops (if_kept m.saved.profile (time_ops z.ops z.after)) empty
+none_behind m z empty = front_none z.ops (if_kept (keeping m) (time_ops z.ops z.after)) empty

@@ -1,5 +1,5 @@
 -- A command that leaves room free to keep the player's place and the playlists' time, and what is kept of both behind it.
-use Rattle.std.proofs.Common.{◌≡◌, ℕ, ◌+◌, ◌-◌, ◌<◌, ◌≤◌, Bool, true, false, cond, List, ◌++◌, length, Result, Ok, Err}
+use Rattle.std.proofs.Common.{◌≡◌, ℕ, ◌+◌, ◌-◌, ◌<◌, ◌≤◌, Bool, true, false, cond, List, [], ◌++◌, length, Result, Ok, Err}
 use Rattle.std.proofs.Common.{refl, sym, ap, subst, ◌∙◌, nat_le, le-leb, drop, append_assoc, arith}
 use borrow.Author.Tests.{lt-leb}
 use Rattle.std.proofs.lemmas.Grind.{flat_map-append}
@@ -22,7 +22,7 @@ use Rattle.machine_core.specs.Keeping.{if_kept, keep_ops, keep_ops_since, keeps,
 use Rattle.machine_core.specs.Looks.{max_looks, weighed}
 use Rattle.machine_core.specs.Meaning.{Meaning, Meant}
 use Rattle.machine_core.specs.Size.{longest_keep, max_request_bytes, room_by, within, within_room}
-use Rattle.machine_core.specs.State.{MachineState}
+use Rattle.machine_core.specs.State.{keeping, lacks_room, MachineState}
 use Rattle.machine_core.specs.Steps.{moves, steps}
 use Rattle.machine_core.specs.Work.{AddsOps, CanKeep, CanKeepBy, Failed, FailedKept, HasRoom, IsKeptRefusalOf, IsRefusalOf, Performs}
 use Rattle.machine_core.specs.Work.{PerformsAside, PerformsKept, Went, WentKept, command_room, keep_count}
@@ -30,6 +30,8 @@ use Rattle.machine_core.specs.declared.changed.Before.{Before}
 use Rattle.machine_core.specs.declared.work.Failure.{Failure}
 use Rattle.machine_core.specs.declared.work.Failure.TheVariants.{Refused, NoMemory}
 use Rattle.machine_core.specs.declared.work.Work.{Work}
+use Rattle.machine_core.proofs.FullLaws.{keeping_none, keeps_none}
+use Rattle.machine_core.proofs.KeepingLaws.{keeping_room}
 use Rattle.machine_core.proofs.KeptReports.{keep_ops_are, step_short}
 
 -- ---- room
@@ -215,8 +217,27 @@ went_means meant m n w d went leaves =
     ap (within_room m.saved.profile w.size) went.means
     ∙ went_within m.saved.profile w.size went.meaning (omega (arith, went.ops.size, leaves))
 
+-- what is kept takes as many bytes under the profile by which it is kept as under the machine's: without room it is nothing
+bytes_kept : (m : MachineState) (profile : Profile) → profile ≡ keeping m → (ops : List Op) → (lacks_room m ≡ true → ops ≡ [])
+    → length (ops_bytes profile ops) ≡ length (ops_bytes m.saved.profile ops)
+bytes_kept m profile under ops none = of (lacks_room m) refl
+  where
+    of : (b : Bool) → lacks_room m ≡ b → length (ops_bytes profile ops) ≡ length (ops_bytes m.saved.profile ops)
+    of true lacks =
+        ap (λ (l : List Op). length (ops_bytes profile l)) (none lacks)
+        ∙ sym (ap (λ (l : List Op). length (ops_bytes m.saved.profile l)) (none lacks))
+    of false room = ap (λ (q : Profile). length (ops_bytes q ops)) (under ∙ keeping_room m room)
+
+-- what can be kept under the machine's profile can be by the way it is kept
+pub can_keep_in : (m : MachineState) (profile : Profile) (w : Work) → profile ≡ keeping m → CanKeepBy m.saved.profile w → CanKeepBy profile w
+can_keep_in m profile w under can = subst (λ (q : Profile). CanKeepBy q w) (sym under) (of (lacks_room m))
+  where
+    of : (b : Bool) → CanKeepBy (cond b Named m.saved.profile) w
+    of true = tt
+    of false = can
+
 pub went_kept : (meant : Meant) (m n k : MachineState) (w d e : Work) (profile : Profile) (before : Before)
-    (went : Went m.saved.profile meant n w d) → profile ≡ m.saved.profile → before ≡ before_of m
+    (went : Went m.saved.profile meant n w d) → profile ≡ keeping m → before ≡ before_of m
     → k ≡ with_ops (if_kept profile (keep_ops_since before n)) n
     → (let ops = if_kept profile (keep_ops_since before n) in AddsOps ops (length (ops_bytes profile ops)) d e)
     → e.text ≡ d.text → WentPlaced m went.meaning k w e
@@ -241,7 +262,7 @@ went_kept meant m n k w d e profile before went under is stands gains text = rec
     kept_so = keep_ops_are m n profile before under is ∙ ap (keep_ops m) went.stands
 
     few : length (ops_bytes profile (if_kept profile (keep_ops_since before n))) ≡ length (ops_bytes p (keep_ops m x.after))
-    few = λ i. length (ops_bytes (under i) (kept_so i))
+    few = (λ i. length (ops_bytes profile (kept_so i))) ∙ bytes_kept m profile under (keep_ops m x.after) (λ lacks. keeps_none m x.after lacks)
 
     bytes : length (ops_bytes p (x.ops ++ keep_ops m x.after)) ≡ length (ops_bytes p x.ops) + length (ops_bytes p (keep_ops m x.after))
     bytes = ap length (flat_map-append (op_bytes p) x.ops (keep_ops m x.after))
@@ -262,7 +283,7 @@ made_within w d e x y made count first second =
     )
 
 pub went_timed : (m : MachineState) (x : Meaning) (k l : MachineState) (w e f : Work) (profile : Profile) (made : ℕ)
-    → WentPlaced m x k w e → profile ≡ m.saved.profile → made ≡ vec_len w.ops
+    → WentPlaced m x k w e → profile ≡ keeping m → made ≡ vec_len w.ops
     → l ≡ with_ops (if_kept profile (time_ops (drop made e.ops.items) k)) k
     → (let ops = if_kept profile (time_ops (drop made e.ops.items) k) in AddsOps ops (length (ops_bytes profile ops)) e f)
     → f.text ≡ e.text → WentTimed m x l w f
@@ -281,7 +302,7 @@ went_timed m x k l w e f profile made went under count stands gains text = recor
     p = m.saved.profile
 
     more : List Op
-    more = if_kept p (time_ops (keeps m x).ops (keeps m x).after)
+    more = if_kept (keeping m) (time_ops (keeps m x).ops (keeps m x).after)
 
     counted : made ≡ length w.ops.items
     counted = omega (arith, count, w.ops.ok.0)
@@ -293,7 +314,8 @@ went_timed m x k l w e f profile made went under count stands gains text = recor
     so = λ i. if_kept (under i) (time_ops (made_since i) (went.stands i))
 
     few : length (ops_bytes profile (if_kept profile (time_ops (drop made e.ops.items) k))) ≡ length (ops_bytes p more)
-    few = λ i. length (ops_bytes (under i) (so i))
+    few = (λ i. length (ops_bytes profile (so i))) ∙ bytes_kept m profile under more (λ lacks.
+        ap (λ (q : Profile). if_kept q (time_ops (keeps m x).ops (keeps m x).after)) (keeping_none m lacks))
 
     bytes : length (ops_bytes p ((keeps m x).ops ++ more)) ≡ length (ops_bytes p (keeps m x).ops) + length (ops_bytes p more)
     bytes = ap length (flat_map-append (op_bytes p) (keeps m x).ops more)

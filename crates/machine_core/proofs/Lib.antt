@@ -30,6 +30,8 @@ pub mod Scans
 pub mod CurrentPlace
 pub mod Sound
 pub mod Sizes
+pub mod FullLaws
+pub mod FullSteps
 pub mod KeepingLaws
 pub mod KeptLaws
 pub mod KeptReports
@@ -37,3 +39,4 @@ pub mod KeptSteps
 pub mod KeptTimes
 pub mod KeptWork
 pub mod Rounds
+pub mod Missing

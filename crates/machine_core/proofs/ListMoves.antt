@@ -53,6 +53,7 @@ together_lawful ops m none other = record {
   rebuilt = ap result_ok (all_apply 0 (of_lists ops) m.saved (none_refused (of_lists ops) m.saved none));
   tells = λ kept. together_tells ops m other;
   place = λ e. refl;
+  room = refl;
 }
 
 pub together_sound : (ops : List ListOp) (m : MachineState) → IsSound m

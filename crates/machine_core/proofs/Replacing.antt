@@ -147,4 +147,5 @@ replaced_lawful name m none changes = record {
   rebuilt = ap result_ok (all_apply 0 (replace_ops name) m.saved (none_refused (replace_ops name) m.saved none));
   tells = replaced_tells name m none changes;
   place = λ e. refl;
+  room = refl;
 }

@@ -51,6 +51,7 @@ shuffled_lawful id span m none = record {
   rebuilt = ap result_ok (all_apply 0 (shuffle_ops id span m.saved) m.saved (none_refused (shuffle_ops id span m.saved) m.saved none));
   tells = λ kept. shuffled_tells id span m;
   place = λ e. refl;
+  room = refl;
 }
 
 -- behind the shuffle alone
@@ -84,6 +85,7 @@ stopped_lawful span m free =
       rebuilt = h.rebuilt;
       tells = λ kept. (let t = h.tells kept in record { none = t.none; lists = t.lists; stickers = t.stickers });
       place = λ e. refl;
+      room = refl;
     }
 
 pub stopped_sound : (span : Span) (m : MachineState) → refusal_of (shuffle span) m.saved ≡ None → IsSound m

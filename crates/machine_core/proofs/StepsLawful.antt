@@ -220,6 +220,7 @@ steps_lawful made m fair = record {
       (step_free made.changes.order made.changes.removed made.changes.single_off made.changes.consume_off m.saved fair.removed));
   tells = step_tells made m fair;
   place = λ e. refl;
+  room = refl;
 }
 
 fair_lawful : (made : Result Step PlayerError) (m : MachineState) → FairIfMade made m.saved.queue.entries (settings_of m.saved) →

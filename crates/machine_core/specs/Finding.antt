@@ -25,13 +25,12 @@ use Rattle.song_db.specs.Duration.{total_of}
 use Rattle.song_db.specs.Query.{distinct_of, number_at}
 use Rattle.song_db.specs.Row.{Row, row_at}
 use Rattle.state_codec.specs.Steps.{◌>>=◌}
-use Rattle.state_codec.specs.declared.op.Op.TheVariants.{List as OfLists}
-use Rattle.state_codec.specs.declared.op.list_op.ListOp.TheVariants as list_ops
 use Rattle.song_files.specs.Tags.{texts_of}
 use Rattle.song_files.specs.declared.tag.Tag.{Tag}
 use Rattle.machine_core.specs.Adding.{adds}
+use Rattle.machine_core.specs.ListMoves.{adds_songs}
 use Rattle.machine_core.specs.Lists.{list_name}
-use Rattle.machine_core.specs.Meaning.{Meant, says, edits}
+use Rattle.machine_core.specs.Meaning.{Meant, says}
 use Rattle.machine_core.specs.Ordered.{rows_told}
 use Rattle.machine_core.specs.State.{MachineState}
 use Rattle.machine_core.specs.declared.commands.finding.part.Part.{Part}
@@ -131,9 +130,9 @@ entry_row_lines mask found = entry_lines mask found.row found.position found.ent
 
 unfoldable pub finding_meaning : TagMask → FindingCommand → MachineState → Meant
 finding_meaning mask (commands.Add search to) m = adds to (numbers_in m.saved.songs (found m.saved.profile search m.saved.songs)) [] m
-finding_meaning mask (commands.AddToPlaylist name search) m = do
+finding_meaning mask (commands.AddToPlaylist name search to) m = do
   good ← list_name name
-  edits (OfLists (list_ops.Add good (numbers_in m.saved.songs (found m.saved.profile search m.saved.songs)))) [] m
+  adds_songs good (numbers_in m.saved.songs (found m.saved.profile search m.saved.songs)) to m
 finding_meaning mask (commands.Count tree) m =
     let found = matching Exact tree m.saved.songs in says (count_lines (length found) (total_of found)) m
 finding_meaning mask (commands.CountGroups tag tree) m = says (group_counts m.saved.profile tag (chosen tree m.saved.songs)) m

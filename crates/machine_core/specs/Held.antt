@@ -5,7 +5,15 @@ use Rattle.machine_core.specs.State.{MachineState, shown_of}
 use Rattle.machine_core.specs.declared.machine.Machine.TheInside.{Inside}
 
 abbrev pub held : Inside → MachineState
-held i = record { saved = i.saved; player = i.player; job = i.job; waiting = i.waiting.items; clock = i.clock }
+held i = record {
+  saved = i.saved;
+  player = i.player;
+  job = i.job;
+  waiting = i.waiting.items;
+  withheld = i.withheld;
+  clock = i.clock;
+  has_room = i.has_room;
+}
 
 -- what is kept of the current song and the next one is right
 abbrev pub IsRight : Inside → Type 0

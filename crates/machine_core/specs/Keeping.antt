@@ -23,7 +23,7 @@ use Rattle.machine_core.specs.Changed.{same_playing}
 use Rattle.machine_core.specs.Happening.{Happening, nothing_happens}
 use Rattle.machine_core.specs.Meaning.{Meaning, Meant}
 use Rattle.machine_core.specs.Reports.{player_happens}
-use Rattle.machine_core.specs.State.{MachineState}
+use Rattle.machine_core.specs.State.{MachineState, keeping}
 use Rattle.machine_core.specs.Steps.{named_length}
 use Rattle.machine_core.specs.declared.changed.Before.{Before}
 
@@ -52,7 +52,7 @@ telling_ops [] s = []
 telling_ops (op ∷ ops) s =
     if changes_nothing (Place op) s then telling_ops ops s else Place op ∷ telling_ops ops (after (Place op) s)
 
--- under the named profile nothing is kept
+-- under the named profile nothing is kept, and without room neither
 abbrev pub if_kept : Profile → List Op → List Op
 if_kept Named ops = []
 if_kept Wide ops = ops
@@ -68,7 +68,7 @@ goes_on m n = same_playing m.player n.player && same_flag m.saved.options.random
 -- what is made behind a change of what plays
 abbrev pub keep_ops : MachineState → MachineState → List Op
 keep_ops m n =
-    if_kept m.saved.profile (if goes_on m n then [] else place_ops m.player.current n.player n.saved n.saved.place)
+    if_kept (keeping m) (if goes_on m n then [] else place_ops m.player.current n.player n.saved n.saved.place)
 
 abbrev pub with_ops : List Op → MachineState → MachineState
 with_ops ops n = record n { saved = after_all ops n.saved }
@@ -87,7 +87,7 @@ time_ops ops n = if list_any is_of_lists ops then telling_time n else []
 
 abbrev pub times : MachineState → Meaning → Meaning
 times m x =
-    let ops = if_kept m.saved.profile (time_ops x.ops x.after) in
+    let ops = if_kept (keeping m) (time_ops x.ops x.after) in
     record x { ops = x.ops ++ ops; after = with_ops ops x.after }
 
 -- the place first, and then the time
@@ -102,7 +102,7 @@ kept_event m h = record h { ops = h.ops ++ keep_ops m h.after; after = with_ops 
 -- where the player is now is kept
 abbrev pub keeps_place : MachineState → Happening
 keeps_place m =
-    let ops = if_kept m.saved.profile (place_ops m.player.current m.player m.saved m.saved.place) in
+    let ops = if_kept (keeping m) (place_ops m.player.current m.player m.saved m.saved.place) in
     record { ops = ops; after = with_ops ops m; changed = none }
 
 -- the song that was started under this ticket has played for a while

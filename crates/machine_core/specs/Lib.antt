@@ -28,11 +28,13 @@ pub mod Changed
 pub mod Reports
 pub mod Before
 pub mod Keeping
+pub mod Room
 pub mod Size
 pub mod Looks
 pub mod Work
 pub mod Held
 pub mod Scanning
 pub mod ScanningRows
+pub mod Missing
 pub mod Sound
 pub mod Restart

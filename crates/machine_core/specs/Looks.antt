@@ -113,9 +113,27 @@ groups_looks tags (Some tree) m = 10 * song_looks Exact tree (3 + tags) m.saved.
 abbrev pub entries_looks : Search → MachineState → ℕ
 entries_looks search m = 10 * ((tests_of search.filter + 1 + arranged m.saved.profile search.sort None) * queue_length m)
 
+-- for each of so many songs that come into a playlist, those behind its place
+abbrev pub placed_looks : ℕ → List ℕ → Option ℕ → MachineState → ℕ
+placed_looks count name None m = 0
+placed_looks count name (Some at) m = count * (length (songs_or_none m.saved.lists name) - at)
+
+-- the most of so many that stand in a window
+abbrev pub most_between : ℕ → Option ℕ → ℕ → ℕ
+most_between start None count = count
+most_between start (Some end) count = min count (end - start)
+
+abbrev pub most_in : Option Window → ℕ → ℕ
+most_in None count = count
+most_in (Some window) count = most_between window.start window.end count
+
+-- Before a search it isn't known how many songs come into the playlist: all may, or as many as the window holds.
+abbrev pub listed_looks : List ℕ → Search → Option ℕ → MachineState → ℕ
+listed_looks name search to m = search_looks search m + placed_looks (most_in search.window (length m.saved.songs)) name to m
+
 abbrev pub finding_looks : FindingCommand → MachineState → ℕ
 finding_looks (finding.Add search to) m = search_looks search m
-finding_looks (finding.AddToPlaylist name search) m = search_looks search m
+finding_looks (finding.AddToPlaylist name search to) m = listed_looks name search to m
 finding_looks (finding.Count tree) m = 10 * song_looks Exact tree 1 m.saved.songs
 finding_looks (finding.CountGroups tag tree) m = values_looks tree m
 finding_looks (finding.Find search) m = search_looks search m
@@ -159,10 +177,9 @@ count_or_under songs path None = count_under songs (place_of (lent path))
 abbrev pub count_named : List Row → List ℕ → ℕ
 count_named songs path = count_or_under songs path (number_at songs path)
 
--- for each song that comes into a playlist, those behind its place
-abbrev pub added_looks : List ℕ → List ℕ → Option ℕ → MachineState → ℕ
-added_looks name path None m = 0
-added_looks name path (Some at) m = count_named m.saved.songs path * (length (songs_or_none m.saved.lists name) - at)
+-- for each song at a path that comes into a playlist, those behind its place
+unfoldable pub added_looks : List ℕ → List ℕ → Option ℕ → MachineState → ℕ
+added_looks name path to m = placed_looks (count_named m.saved.songs path) name to m
 
 abbrev pub lists_looks : ListsCommand → MachineState → ℕ
 lists_looks (lists.Add name path to) m = added_looks name path to m

@@ -9,8 +9,8 @@ use Rattle.machine_core.specs.Changed.{changed}
 use Rattle.machine_core.specs.Followed.{current_row}
 use Rattle.machine_core.specs.Happening.{Happening}
 use Rattle.machine_core.specs.Meaning.{Meaning}
-use Rattle.machine_core.specs.State.{MachineState, settings_of}
-use Rattle.machine_core.specs.Steps.{steps}
+use Rattle.machine_core.specs.State.{MachineState}
+use Rattle.machine_core.specs.Steps.{stepping, steps}
 
 -- what happens is what is meant, and the subsystems that it changes
 abbrev pub happens : Meaning → MachineState → Happening
@@ -30,8 +30,9 @@ when_fed ticket frames m = player_happens (fed_in (current_row m.saved m.player)
 
 -- the song that has ended is followed as the player follows it
 abbrev pub when_ended : ℕ → MachineState → Happening
-when_ended ticket m = happens (steps (ended m.saved.queue.entries (settings_of m.saved) m.player ticket) m) m
+when_ended ticket m = happens (steps (stepping m (λ settings. ended m.saved.queue.entries settings m.player ticket)) m) m
 
 -- what could not be played on is followed as the player follows it
 abbrev pub when_broken : ℕ → BrokenCause → MachineState → Happening
-when_broken ticket cause m = happens (steps (failed m.saved.queue.entries (settings_of m.saved) m.player ticket cause) m) m
+when_broken ticket cause m =
+    happens (steps (stepping m (λ settings. failed m.saved.queue.entries settings m.player ticket cause)) m) m

@@ -8,7 +8,7 @@ use Rattle.player_core.specs.declared.playing.PlayState.TheVariants.{Stop, Play}
 use Rattle.profile.specs.declared.profile.Profile.TheVariants.{Wide}
 use Rattle.state_codec.specs.SavedState.{SavedState}
 use Rattle.machine_core.specs.Sound.{is_in_queue, IsIn, AreOwn, IsSoundMachine}
-use Rattle.machine_core.specs.State.{MachineState}
+use Rattle.machine_core.specs.State.{MachineState, lacks_room}
 
 -- the song of the place and its round stand in the queue, and each id of the round once; without random there is no round
 pub record IsSoundPlace (entries : List Entry) (random : Bool) (place : PlaceState) : Type 0 where
@@ -44,12 +44,14 @@ pub record IsKeptPlace (m : MachineState) (place : PlaceState) : Type 0 where
 abbrev pub IsInStep : MachineState → Type 0
 IsInStep m = (place : PlaceState) → m.saved.place ≡ Some place → IsKeptPlace m place
 
--- a machine of the wide profile, which has a place, beside a queue and a sound player
+-- A machine of the wide profile, which has a place that is sound, beside a queue and a sound player: where there is room for what changes,
+-- the place is where the player is.
 pub record IsKeptMachine (m : MachineState) : Type 0 where
   pub wide : m.saved.profile ≡ Wide
   pub has : is_some m.saved.place ≡ true
   pub holds : IsSoundMachine m
-  pub step : IsInStep m
+  pub sound : HasSoundPlace m.saved
+  pub step : lacks_room m ≡ false → IsInStep m
 
 -- The player that goes on in the next life has the song and the round of the one before; with a song it is paused where that played or was
 -- paused, or else, if it is to play on, plays where that played; and it is stopped where that was.

@@ -11,7 +11,7 @@ use Rattle.state_codec.specs.declared.op.Op.TheVariants.{Batch}
 use Rattle.machine_core.specs.Changed.{changed}
 use Rattle.machine_core.specs.Database.{asked, begun}
 use Rattle.machine_core.specs.Followed.{followed}
-use Rattle.machine_core.specs.Happening.{Happening, nothing_happens}
+use Rattle.machine_core.specs.Happening.{Happening, if_room, nothing_happens}
 use Rattle.machine_core.specs.Meaning.{order_ops}
 use Rattle.machine_core.specs.State.{MachineState}
 use Rattle.machine_core.specs.declared.job.Job.{Job}
@@ -75,4 +75,4 @@ finds (change ∷ changes) m = changes_rows (change ∷ changes) m
 
 abbrev pub when_found : ℕ → List RowChange → MachineState → Happening
 when_found job changes m =
-    if is_running job m then finds (telling m.saved.songs (kept_changes m.saved.profile changes)) m else nothing_happens m
+    if is_running job m then if_room m (finds (telling m.saved.songs (kept_changes m.saved.profile changes)) m) else nothing_happens m

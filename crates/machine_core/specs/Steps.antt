@@ -6,7 +6,7 @@ use Rattle.play_queue.specs.declared.entry.Entry.{Entry}
 use Rattle.player_core.specs.Commands.{named, played_from, resumed, next_one}
 use Rattle.player_core.specs.Ending.{ended}
 use Rattle.player_core.specs.Order.{current_entry}
-use Rattle.player_core.specs.Player.{PlayerState, Step}
+use Rattle.player_core.specs.Player.{PlayerState, Step, no_changes}
 use Rattle.player_core.specs.Reports.{failed}
 use Rattle.player_core.specs.Seek.{sought}
 use Rattle.player_core.specs.declared.changes.Changes.{Changes}
@@ -23,7 +23,7 @@ use Rattle.state_codec.specs.declared.op.queue_op.QueueOp.TheVariants.{Delete}
 use Rattle.state_codec.specs.declared.op.setting.Setting.TheVariants.{Single, Consume}
 use Rattle.machine_core.specs.Followed.{current_row, entry_row}
 use Rattle.machine_core.specs.Meaning.{Meaning, Meant, does, order_ops, turns}
-use Rattle.machine_core.specs.State.{MachineState, settings_of}
+use Rattle.machine_core.specs.State.{MachineState, lacks_room, settings_of}
 use Rattle.machine_core.specs.Told.{player_told}
 use Rattle.machine_core.specs.declared.steps.PlayerStep.{PlayerStep}
 use Rattle.machine_core.specs.declared.steps.PlayerStep.TheVariants.{Resume, Play, Seek, Next, Ended, Failed}
@@ -71,6 +71,24 @@ IsInQueue removed entries = ForSome removed (λ at. at < length entries)
 -- a step of the player, with what it changes
 abbrev pub steps : Step → MachineState → Meaning
 steps step m = does [] (step_ops step.changes) step.player m
+
+-- a step of the player that changes nothing of what is saved
+abbrev pub unsaved : Step → Step
+unsaved step = record step { changes = no_changes }
+
+-- what the player goes by where no entry can leave the queue
+abbrev pub without_consume : PlaySettings → PlaySettings
+without_consume settings = record settings { options = record settings.options { consume = Off } }
+
+-- the step that an event brings: where there is no room, the player goes on as if no entry left the queue, and what else the step would
+-- change stays as it is
+abbrev pub stepping : MachineState → (PlaySettings → Step) → Step
+stepping m step =
+    if lacks_room m then unsaved (step (without_consume (settings_of m.saved))) else step (settings_of m.saved)
+
+-- what the player does then
+abbrev pub step_full : PlayerStep → MachineState → Result Step PlayerError
+step_full step m = step_of step m.saved.queue.entries (without_consume (settings_of m.saved)) m.player
 
 -- a command that makes a step, refused as the player refuses it
 abbrev pub moves : Result Step PlayerError → MachineState → Meant

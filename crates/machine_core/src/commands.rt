@@ -4,6 +4,7 @@ ghost use Rattle.machine_core.specs.Changed.{changed};
 ghost use Rattle.machine_core.specs.Command.{meaning};
 ghost use Rattle.machine_core.specs.Looks.{looked, looks_of, weighed};
 ghost use Rattle.machine_core.specs.Memory.{takes_memory};
+ghost use Rattle.machine_core.specs.Room.{under_room};
 ghost use Rattle.machine_core.specs.Work.{CanKeepBy, HasRoom, Performs, PerformsAside, PerformsKept, command_room};
 
 use crate::looks::Looks;
@@ -30,6 +31,8 @@ impl Machine {
     /// which the request would look at more than it may is refused before it looks at anything. Refused, or without memory, it leaves
     /// machine and answer as they were.
     ///
+    /// Where the journal's disk has no room, one that would change what is saved is refused `DiskFull`, and what plays isn't kept.
+    ///
     /// Where it changes what plays, the player's place is kept behind it, and where it changes playlists, the time of that: room for both
     /// is taken before.
     ///
@@ -45,8 +48,8 @@ impl Machine {
     ) -> Result<Subsystems, Failure>
         requires room { HasRoom command_room work.old }
         requires keeps { CanKeepBy self.old.saved.profile work.old }
-        ensures performs { PerformsKept (weighed looks.old (looks_of command.entry self.old) (meaning mask command.entry self.old))
-            self.old self.new work.old work.new result }
+        ensures performs { PerformsKept (weighed looks.old (looks_of command.entry self.old)
+            (under_room self.old (meaning mask command.entry self.old))) self.old self.new work.old work.new result }
         ensures looks { looks.new ≡ looked looks.old (looks_of command.entry self.old) }
         ensures changed { IfOk result (λ set. set ≡ changed self.old self.new) }
         ensures memory { result ≡ Err Failure.NoMemory → takes_memory command.entry self.old ≡ true }
@@ -65,16 +68,18 @@ impl Machine {
     ) -> Result<Subsystems, Failure>
         requires room { HasRoom command_room work.old }
         requires keeps { CanKeepBy self.old.saved.profile work.old }
-        ensures performs { PerformsKept (meaning mask command.entry self.old) self.old self.new work.old work.new result }
+        ensures performs { PerformsKept (under_room self.old (meaning mask command.entry self.old))
+            self.old self.new work.old work.new result }
         ensures changed { IfOk result (λ set. set ≡ changed self.old self.new) }
         ensures memory { result ≡ Err Failure.NoMemory → takes_memory command.entry self.old ≡ true }
     {
         let profile = self.saved.profile();
+        let keeping = self.keeping();
         let before = self.before();
         let made = work.ops.len();
         self.perform_aside(alloc, mask, command, profile, work)?;
-        work.keep_place(self, profile, &before);
-        work.keep_time(self, profile, made);
+        work.keep_place(self, keeping, &before);
+        work.keep_time(self, keeping, made);
         Ok(self.changed_since(&before, &work.ops[made..]))
     }
 
@@ -89,18 +94,19 @@ impl Machine {
     ) -> Result<(), Failure>
         requires room { HasRoom command_room work.old }
         requires under { profile ≡ self.old.saved.profile }
-        ensures performs { PerformsAside (meaning mask command.entry self.old) self.old self.new work.old work.new result }
+        ensures performs { PerformsAside (under_room self.old (meaning mask command.entry self.old))
+            self.old self.new work.old work.new result }
         ensures memory { result ≡ Err Failure.NoMemory → takes_memory command.entry self.old ≡ true }
     {
         work.set_aside(profile)?;
-        let done = self.dispatch(alloc, mask, command, work);
+        let done = self.dispatch_in_room(alloc, mask, command, work);
         work.give_back(profile);
         done
     }
 
     // The command of each topic.
     #[tactic(auto, unfolding(crate::specs::Command::meaning))]
-    fn dispatch(
+    pub(crate) fn dispatch(
         &mut self,
         alloc: Global,
         mask: TagMask,

@@ -35,6 +35,20 @@ pub struct WaitingJob {
     pub opens_all: bool,
 }
 
+/// A job that missed too many songs, and dropped none of them.
+#[derive(Debug, Drop)]
+pub struct WithheldJob {
+    pub number: u32,
+    /// Its place; none is all.
+    pub place: Option<Uri>,
+    /// How many songs it missed.
+    pub missing: usize,
+    /// Of how many that there were.
+    pub songs: usize,
+    /// When, as a clock told: seconds since the beginning of 1970.
+    pub at: u64,
+}
+
 /// The number of the job that comes after one of this number: jobs count from 1, and begin again behind the last number.
 pub(crate) fn next_job(number: u32) -> u32
     ensures { result ≡ next_job number }

@@ -230,7 +230,7 @@ impl Machine {
         if !self.player.counts(ticket) {
             return;
         }
-        let profile = self.saved.profile();
+        let profile = self.keeping();
         let current = self.player.current();
         let _ = self.put_by(profile, current, ops);
     }

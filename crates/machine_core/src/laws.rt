@@ -1,9 +1,12 @@
 //! Laws of the definitions, for the layers above: a call brings its clauses into their proofs.
-ghost use Rattle.std.specs.Prelude.{◌≡◌, ◌↔◌, ◌+◌, ◌-◌, ◌<◌, ◌≤◌, ℕ, Bool, true, false, List, [], length, min, Ok, Err, Some, IsOk, ◌∷◌, ◌++◌};
-ghost use Rattle.std.specs.Prelude.{drop, Option};
+ghost use Rattle.std.specs.Prelude.{◌≡◌, ◌≢◌, ◌↔◌, ◌+◌, ◌-◌, ◌<◌, ◌≤◌, ℕ, Bool, true, false, List, [], length};
+ghost use Rattle.std.specs.Prelude.{min, Ok, Err, Some, IsOk, ◌∷◌, ◌++◌};
+ghost use Rattle.std.specs.Prelude.{drop, Option, ◌==◌};
+ghost use Rattle.std.specs.List.{list_any};
 ghost use Rattle.command_text.specs.declared.command.Command.{Command};
-ghost use Rattle.command_text.specs.declared.refusal.CommandRefusal.TheVariants.{BadIndex};
+ghost use Rattle.command_text.specs.declared.refusal.CommandRefusal.TheVariants.{BadIndex, DiskFull};
 ghost use Rattle.command_text.specs.declared.tag_mask.TagMask.{TagMask};
+ghost use Rattle.profile.specs.declared.profile.Profile.TheVariants.{Named};
 ghost use Rattle.song_db.specs.declared.change.RowChange.{RowChange};
 ghost use Rattle.state_codec.specs.Applied.{all_applied};
 ghost use Rattle.state_codec.specs.OpsSongs.{uris_at};
@@ -17,13 +20,15 @@ ghost use Rattle.machine_core.specs.Command.{meaning};
 ghost use Rattle.machine_core.specs.Database.{asked, begins_job, next_number};
 ghost use Rattle.machine_core.specs.Keeping.{kept, kept_event, when_kept, when_resumed};
 ghost use Rattle.machine_core.specs.ListMoves.{adds_songs_at, moves_songs, puts_in, with_block_at, with_songs_at};
-ghost use Rattle.machine_core.specs.Meaning.{Meaning, edits};
+ghost use Rattle.machine_core.specs.Meaning.{Meaning, Meant, edits};
+ghost use Rattle.machine_core.specs.Missing.{after_withheld, again_seconds, asked_at, is_withheld, when_missed};
 ghost use Rattle.machine_core.specs.Reports.{when_broken, when_ended, when_fed};
 ghost use Rattle.machine_core.specs.Restart.{GoesOnAs, IsKeptMachine, IsSoundPlace, IsThere};
+ghost use Rattle.machine_core.specs.Room.{SavesNothing, under_room, when_room};
 ghost use Rattle.machine_core.specs.Scanning.{is_running, jobs_of, kept_changes, telling, when_found, when_scanned};
 ghost use Rattle.machine_core.specs.Sound.{IsSound, IsSoundMachine};
 ghost use Rattle.machine_core.specs.Spans.{count_of};
-ghost use Rattle.machine_core.specs.State.{MachineState, started, told_time};
+ghost use Rattle.machine_core.specs.State.{MachineState, lacks_room, started, told_time};
 ghost use Rattle.machine_core.specs.Steps.{current_length};
 ghost use Rattle.machine_core.specs.declared.clock.ClockTime.{ClockTime};
 ghost use Rattle.machine_core.specs.declared.span.Span.{Span};
@@ -75,11 +80,33 @@ pub fn no_op_of_an_event_without_a_change()
         → (kept_event m (when_broken ticket cause m)).after.saved ≡ m.saved → (kept_event m (when_broken ticket cause m)).ops ≡ [] }
     ensures broken_same { (ticket : ℕ) (cause : BrokenCause) (m : MachineState) → (kept_event m (when_broken ticket cause m)).ops ≡ []
         → (kept_event m (when_broken ticket cause m)).after.saved ≡ m.saved }
-    ensures found { (job : ℕ) (changes : List RowChange) (m : MachineState) → is_running job m ≡ true
+    ensures found { (job : ℕ) (changes : List RowChange) (m : MachineState) → is_running job m ≡ true → lacks_room m ≡ false
         → ((kept_event m (when_found job changes m)).ops ≡ [] ↔ telling m.saved.songs (kept_changes m.saved.profile changes) ≡ []) }
     ensures kept_none { (ticket : ℕ) (m : MachineState) → IsSavedState m.saved
         → (when_kept ticket m).after.saved ≡ m.saved → (when_kept ticket m).ops ≡ [] }
     ensures kept_same { (ticket : ℕ) (m : MachineState) → (when_kept ticket m).ops ≡ [] → (when_kept ticket m).after.saved ≡ m.saved }
+    ensures told_none { (is_there : Bool) (m : MachineState) → IsSavedState m.saved
+        → (when_room is_there m).after.saved ≡ m.saved → (when_room is_there m).ops ≡ [] }
+    ensures told_same { (is_there : Bool) (m : MachineState) → (when_room is_there m).ops ≡ []
+        → (when_room is_there m).after.saved ≡ m.saved }
+{}
+
+/// Without room nothing that is saved changes: a command that goes well makes no op, nor does the end of a song, its failure or a batch,
+/// and nothing is kept.
+pub fn without_room_nothing_saved()
+    ensures command { (mask : TagMask) (command : Command) (m : MachineState) (x : Meaning) → lacks_room m ≡ true
+        → kept m (under_room m (meaning mask command m)) ≡ Ok x → (x.ops ≡ []) × (x.after.saved ≡ m.saved) }
+    ensures refused { (m : MachineState) (x : Meaning) → lacks_room m ≡ true → x.ops ≢ [] → under_room m (Ok x) ≡ Err DiskFull }
+    ensures same { (m : MachineState) (meant : Meant) → lacks_room m ≡ false → under_room m meant ≡ meant }
+    ensures ended { (ticket : ℕ) (m : MachineState) → lacks_room m ≡ true
+        → SavesNothing m (kept_event m (when_ended ticket m)) }
+    ensures broken { (ticket : ℕ) (cause : BrokenCause) (m : MachineState) → lacks_room m ≡ true
+        → SavesNothing m (kept_event m (when_broken ticket cause m)) }
+    ensures found { (job : ℕ) (changes : List RowChange) (m : MachineState) → lacks_room m ≡ true
+        → SavesNothing m (kept_event m (when_found job changes m)) }
+    ensures kept_at { (ticket : ℕ) (m : MachineState) → lacks_room m ≡ true → SavesNothing m (when_kept ticket m) }
+    ensures gone { (m : MachineState) → SavesNothing m (when_room false m) }
+    ensures never_named { (m : MachineState) → m.saved.profile ≡ Named → lacks_room m ≡ false }
 {}
 
 /// A command, a report of the output and an event of a scan keep the player sound: the current song stands in the queue, and so do the
@@ -94,8 +121,10 @@ pub fn player_stays_sound()
     ensures found { (job : ℕ) (changes : List RowChange) (m : MachineState) → IsSound m
         → IsSound (kept_event m (when_found job changes m)).after }
     ensures scanned { (job : ℕ) (m : MachineState) → IsSound m → IsSound (when_scanned job m).after }
+    ensures missed { (job missing : ℕ) (m : MachineState) → IsSound m → IsSound (when_missed job missing m).after }
     ensures kept_at { (ticket : ℕ) (m : MachineState) → IsSound m → IsSound (when_kept ticket m).after }
     ensures resumed { (plays : Bool) (m : MachineState) → IsSound m → IsSound (when_resumed plays m).after }
+    ensures told { (is_there : Bool) (m : MachineState) → IsSound m → IsSound (when_room is_there m).after }
 {}
 
 /// A command, a report of the output and an event of a scan keep the frame position within the song that is current, beside a queue and a
@@ -110,25 +139,29 @@ pub fn frame_stays_within_the_song()
     ensures found { (job : ℕ) (changes : List RowChange) (m : MachineState) → IsSoundMachine m
         → IsSoundMachine (kept_event m (when_found job changes m)).after }
     ensures scanned { (job : ℕ) (m : MachineState) → IsSoundMachine m → IsSoundMachine (when_scanned job m).after }
+    ensures missed { (job missing : ℕ) (m : MachineState) → IsSoundMachine m → IsSoundMachine (when_missed job missing m).after }
     ensures kept_at { (ticket : ℕ) (m : MachineState) → IsSoundMachine m → IsSoundMachine (when_kept ticket m).after }
     ensures resumed { (plays : Bool) (m : MachineState) → IsSoundMachine m → IsSoundMachine (when_resumed plays m).after }
+    ensures told { (is_there : Bool) (m : MachineState) → IsSoundMachine m → IsSoundMachine (when_room is_there m).after }
 {}
 
-/// Under the wide profile a command, a report of the output and an event of a scan leave the kept place in step with the player, beside
-/// a queue and a sound player.
+/// Under the wide profile a command, a report of the output and an event of a scan leave the kept place sound, and in step with the player
+/// where there is room for what changes, beside a queue and a sound player.
 pub fn kept_place_stays_in_step()
     ensures command { (mask : TagMask) (command : Command) (m : MachineState) (x : Meaning) → IsKeptMachine m
-        → kept m (meaning mask command m) ≡ Ok x → IsKeptMachine x.after }
+        → kept m (under_room m (meaning mask command m)) ≡ Ok x → IsKeptMachine x.after }
     ensures fed { (ticket frames : ℕ) (m : MachineState) → IsKeptMachine m → IsKeptMachine (when_fed ticket frames m).after }
     ensures ended { (ticket : ℕ) (m : MachineState) → IsKeptMachine m → IsKeptMachine (kept_event m (when_ended ticket m)).after }
     ensures broken { (ticket : ℕ) (cause : BrokenCause) (m : MachineState) → IsKeptMachine m
         → IsKeptMachine (kept_event m (when_broken ticket cause m)).after }
     ensures found { (job : ℕ) (changes : List RowChange) (m : MachineState) → IsKeptMachine m
         → IsKeptMachine (kept_event m (when_found job changes m)).after }
-    ensures scanned { (job : ℕ) (m : MachineState) → IsKeptMachine m → IsKeptMachine (when_scanned job m).after }
+    ensures scanned { (job : ℕ) (m : MachineState) → IsKeptMachine m
+        → IsKeptMachine (when_scanned job m).after × ((missing : ℕ) → IsKeptMachine (when_missed job missing m).after) }
     ensures clocked { (time : ClockTime) (m : MachineState) → IsKeptMachine m → IsKeptMachine (told_time time m) }
     ensures kept_at { (ticket : ℕ) (m : MachineState) → IsKeptMachine m → IsKeptMachine (when_kept ticket m).after }
     ensures resumed { (plays : Bool) (m : MachineState) → IsKeptMachine m → IsKeptMachine (when_resumed plays m).after }
+    ensures told { (is_there : Bool) (m : MachineState) → IsKeptMachine m → IsKeptMachine (when_room is_there m).after }
 {}
 
 /// Where the player is at the kept place, the next life goes on with the same song and the same round.
@@ -153,4 +186,19 @@ pub fn jobs_are_done_in_turn()
         → jobs_of (when_scanned job m).after ≡ drop 1 (jobs_of m) }
     ensures found { (job : ℕ) (changes : List RowChange) (m : MachineState)
         → jobs_of (kept_event m (when_found job changes m)).after ≡ jobs_of m }
+{}
+
+/// Where songs that a job misses are withheld, nothing that is saved changes, and the job is over, so that no batch of it drops one. The
+/// same job, asked for again within ten minutes, goes on; so does one that opens every file.
+pub fn too_many_missing_drop_nothing()
+    ensures saved { (job missing : ℕ) (m : MachineState) → (when_missed job missing m).after.saved ≡ m.saved }
+    ensures no_op { (job missing : ℕ) (m : MachineState) → (when_missed job missing m).ops ≡ [] }
+    ensures over { (job missing : ℕ) (m : MachineState) → is_running job m ≡ true → is_withheld missing m ≡ true
+        → list_any (λ next. next.number == job) m.waiting ≡ false → is_running job (when_missed job missing m).after ≡ false }
+    ensures next { (job missing : ℕ) (m : MachineState) → is_running job m ≡ true → is_withheld missing m ≡ true
+        → jobs_of (when_missed job missing m).after ≡ drop 1 (jobs_of m) }
+    ensures again { (number missing now : ℕ) (m : MachineState) → now ≤ m.clock.now + again_seconds
+        → is_withheld missing (asked_at number now m.job (after_withheld missing m)) ≡ false }
+    ensures opens_all { (missing : ℕ) (m : MachineState) → m.job.opens_all ≡ true → is_withheld missing m ≡ false }
+    ensures named { (missing : ℕ) (m : MachineState) → m.saved.profile ≡ Named → is_withheld missing m ≡ false }
 {}

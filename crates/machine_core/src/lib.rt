@@ -12,6 +12,7 @@ pub mod clock;
 mod commands;
 mod current;
 mod edit;
+mod full_disk;
 mod happened;
 pub mod job;
 mod keeping;
@@ -29,7 +30,7 @@ pub mod work;
 
 pub use clock::ClockTime;
 pub use happened::Happened;
-pub use job::{Job, WaitingJob};
+pub use job::{Job, WaitingJob, WithheldJob};
 pub use looks::{Looks, MAX_LOOKS};
 pub use machine::Machine;
 pub use work::{Failure, MAX_REQUEST_BYTES, Work};

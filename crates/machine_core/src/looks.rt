@@ -3,7 +3,7 @@ ghost use Rattle.std.specs.Prelude.{◌≡◌, ◌+◌, ◌<◌, ◌≤◌, ◌^
 ghost use Rattle.std.specs.Option.{option_copied};
 ghost use Rattle.command_text.specs.declared.refusal.CommandRefusal.TheVariants.{RequestTooLarge};
 ghost use Rattle.machine_core.specs.Looks.{alone_looks, arranged, choice_looks, database_looks, entries_looks, finding_looks, groups_looks};
-ghost use Rattle.machine_core.specs.Looks.{added_looks, block_looks, count_named, gap_of, range_looks};
+ghost use Rattle.machine_core.specs.Looks.{added_looks, block_looks, count_named, gap_of, listed_looks, most_in, placed_looks, range_looks};
 ghost use Rattle.machine_core.specs.Looks.{leaving_looks, list_looks, lists_looks, looks_of, max_looks, moved_looks, parted, queue_looks};
 ghost use Rattle.machine_core.specs.Looks.{search_looks, settings_looks, stickers_looks, values_looks};
 ghost use Rattle.machine_core.specs.Lists.{songs_named};
@@ -94,6 +94,20 @@ fn parted(profile: Profile) -> u8
     match profile {
         Profile::Named => 1,
         Profile::Wide => 4,
+    }
+}
+
+// The most of so many that stand in a window.
+fn most_in(part: Option<Window>, count: u64) -> u64
+    ensures value { result ≡ most_in part count }
+    ensures few { result ≤ count }
+{
+    match part {
+        None => count,
+        Some(part) => match part.end {
+            None => count,
+            Some(end) => count.min(u64::from(end.saturating_sub(part.start))),
+        },
     }
 }
 
@@ -207,13 +221,34 @@ impl Machine {
     }
 
     fn search_looks(&self, search: &Search) -> u64
-        ensures { result ≡ search_looks search.now self.now }
+        ensures value { result ≡ search_looks search.now self.now }
+        ensures few { result < 2 ^ 63 }
     {
         let profile = self.saved.profile();
         let more = arranged(profile, search.sort, search.window);
         10 * search
             .filter
             .told_looks(profile, self.saved.songs(), search.case, more)
+    }
+
+    // Before a search it isn't known how many songs come into the playlist: all may, or as many as the window holds.
+    fn listed_looks(&self, name: &str, search: &Search, to: Option<u32>) -> u64
+        ensures { result ≡ listed_looks name.now search.now to self.now }
+    {
+        let count = most_in(search.window, self.row_count());
+        self.search_looks(search) + self.placed_looks(count, name, to)
+    }
+
+    // For each of so many songs that come into a playlist, those behind its place.
+    fn placed_looks(&self, count: u64, name: &str, to: Option<u32>) -> u64
+        requires { count ≤ 65536 }
+        ensures value { result ≡ placed_looks count name.now to self.now }
+        ensures few { result < 2 ^ 63 }
+    {
+        match to {
+            None => 0,
+            Some(at) => count * u64::from(self.song_count(name).saturating_sub(at)),
+        }
     }
 
     fn values_looks(&self, filter: Option<&Filter>) -> u64
@@ -249,7 +284,9 @@ impl Machine {
     {
         match command {
             FindingCommand::Add(search, _) => self.search_looks(search),
-            FindingCommand::AddToPlaylist(_, search) => self.search_looks(search),
+            FindingCommand::AddToPlaylist(name, search, to) => {
+                self.listed_looks(name.as_str(), search, *to)
+            }
             FindingCommand::Count(filter) => {
                 10 * filter.looks(self.saved.songs(), Case::Exact, 1)
             }
@@ -331,16 +368,12 @@ impl Machine {
         }
     }
 
-    // For each song that comes into a playlist, those behind its place.
+    // For each song at a path that comes into a playlist, those behind its place.
+    #[tactic(auto, unfolding(crate::specs::Looks::added_looks))]
     fn added_looks(&self, name: &str, path: &str, to: Option<u32>) -> u64
         ensures { result ≡ added_looks name.now path.now to self.now }
     {
-        match to {
-            None => 0,
-            Some(at) => {
-                self.count_named(path) * u64::from(self.song_count(name).saturating_sub(at))
-            }
-        }
+        self.placed_looks(self.count_named(path), name, to)
     }
 
     fn lists_looks(&self, command: &ListsCommand<'_>) -> u64

@@ -3,7 +3,7 @@ ghost use Rattle.std.specs.Prelude.{◌≡◌};
 ghost use Rattle.machine_core.specs.State.{manners_of, started};
 
 use crate::clock::ClockTime;
-use crate::job::{Job, WaitingJob};
+use crate::job::{Job, WaitingJob, WithheldJob};
 use player_core::{KeptNext, Manners, PlaySettings, Player};
 use profile::Profile;
 use state_codec::Saved;
@@ -20,8 +20,8 @@ fn manners_of(profile: Profile) -> Manners
     }
 }
 
-/// The daemon without its clients: the half that is saved, the player, the job of the database with those that wait, and what a clock
-/// told.
+/// The daemon without its clients: the half that is saved, the player, the job of the database with those that wait, what a clock told,
+/// and whether the journal's disk has room.
 #[derive(Drop)]
 pub struct Machine {
     pub(crate) saved: Saved,
@@ -29,7 +29,11 @@ pub struct Machine {
     pub(crate) job: Job,
     // The jobs that were asked for while it ran, in their order.
     pub(crate) waiting: Vec<WaitingJob>,
+    // The last job that dropped nothing because it missed too many songs, until another goes on.
+    pub(crate) withheld: Option<WithheldJob>,
     pub(crate) clock: ClockTime,
+    // Whether the journal's disk has room for what changes.
+    pub(crate) has_room: bool,
     // What `status` shows of the current song and the next one, until something of it changes.
     pub(crate) kept: KeptNext,
 }
@@ -46,10 +50,11 @@ impl Model for Machine {
 }
 
 impl Machine {
+    ghost use Rattle.std.specs.Prelude.{option_copied};
     ghost use Rattle.machine_core.specs.State.{settings_of};
 
-    /// A machine that begins with what was saved: the player is stopped without a current song, no job runs, and no clock has told
-    /// anything.
+    /// A machine that begins with what was saved: the player is stopped without a current song, no job runs, no clock has told anything,
+    /// and there is room.
     pub fn new(alloc: Global, saved: Saved) -> Machine
         ensures { result ≡ started saved }
     {
@@ -58,7 +63,9 @@ impl Machine {
             player: Player::new(alloc),
             job: Job::none(),
             waiting: Vec::new(alloc),
+            withheld: None,
             clock: ClockTime::untold(),
+            has_room: true,
             kept: KeptNext::new(),
         }
     }
@@ -81,6 +88,13 @@ impl Machine {
         ensures { result.now ≡ self.now.job }
     {
         &self.job
+    }
+
+    /// The last job that dropped nothing because it missed too many songs, until another goes on.
+    pub fn withheld(&self) -> Option<&WithheldJob>
+        ensures { option_copied result ≡ self.now.withheld }
+    {
+        self.withheld.as_ref()
     }
 
     // What of the saved half the player goes by.

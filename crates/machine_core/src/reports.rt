@@ -54,14 +54,15 @@ impl Machine {
         ensures ok { IfOk result (HasHappened (kept_event self.old (when_ended ticket self.old)) self.old self.new) }
         ensures err { OnErr result (self.new ≡ self.old) }
     {
+        let step = PlayerStep::Ended(ticket);
+        if self.lacks_room() {
+            return self.step_unsaved(alloc, step);
+        }
         let before = self.before();
         let profile = self.saved.profile();
         let mut work = Work::new(alloc, profile)?;
         work.make_room(profile)?;
-        if self
-            .make_step(alloc, PlayerStep::Ended(ticket), &mut work)
-            .is_err()
-        {
+        if self.make_step(alloc, step, &mut work).is_err() {
             return Err(NoMemory);
         }
         work.keep_place(self, profile, &before);
@@ -82,14 +83,15 @@ impl Machine {
         ensures ok { IfOk result (HasHappened (kept_event self.old (when_broken ticket cause self.old)) self.old self.new) }
         ensures err { OnErr result (self.new ≡ self.old) }
     {
+        let step = PlayerStep::Failed(ticket, cause);
+        if self.lacks_room() {
+            return self.step_unsaved(alloc, step);
+        }
         let before = self.before();
         let profile = self.saved.profile();
         let mut work = Work::new(alloc, profile)?;
         work.make_room(profile)?;
-        if self
-            .make_step(alloc, PlayerStep::Failed(ticket, cause), &mut work)
-            .is_err()
-        {
+        if self.make_step(alloc, step, &mut work).is_err() {
             return Err(NoMemory);
         }
         work.keep_place(self, profile, &before);

@@ -13,6 +13,7 @@ ghost use Rattle.machine_core.specs.Meaning.{order_ops};
 ghost use Rattle.machine_core.specs.Scanning.{after_job, is_running, when_scanned, when_found, changes_rows};
 ghost use Rattle.machine_core.specs.Work.{keep_count};
 
+mod missing;
 mod rows;
 
 use crate::current::current_entry;
@@ -68,13 +69,17 @@ impl Machine {
     }
 
     /// A scan has read a batch. One op makes the changes of it that change a row at their turn, but for rows that the profile doesn't
-    /// keep. Nothing happens where there are none, or where the job of this number doesn't run. Without memory the machine stays as it was.
+    /// keep. Nothing happens where there are none, where the job of this number doesn't run, or where the journal's disk has no room.
+    /// Without memory the machine stays as it was.
     pub fn batch(&mut self, alloc: Global, job: u32, changes: Changes) -> Result<Happened, NoMemory>
         ensures ok { IfOk result (λ happened. HasHappened (kept_event self.old
             (when_found job changes self.old)) self.old self.new happened) }
         ensures err { OnErr result (self.new ≡ self.old) }
     {
         if !self.runs_job(job) {
+            return Ok(nothing(alloc));
+        }
+        if self.lacks_room() {
             return Ok(nothing(alloc));
         }
         let profile = self.saved.profile();
@@ -100,11 +105,11 @@ impl Machine {
         ensures err { OnErr result (self.new ≡ self.old) }
     {
         laws::body_len();
-        let profile = self.saved.profile();
+        let keeping = self.keeping();
         let before = self.before();
         let stickers = self.saved.stickers().len();
         let mut ops = self.make_batch(alloc, changes)?;
-        let _ = self.keep_since(profile, &before, &mut ops);
+        let _ = self.keep_since(keeping, &before, &mut ops);
         let mut changed = self.changed_since(&before, &ops);
         changed.sticker = stickers != self.saved.stickers().len();
         Ok(Happened { ops, changed })

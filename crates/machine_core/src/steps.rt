@@ -36,7 +36,7 @@ pub enum PlayerStep {
 }
 
 // The player makes the step.
-fn take_step(
+pub(crate) fn take_step(
     player: &mut Player,
     entries: &Entries,
     settings: &PlaySettings,

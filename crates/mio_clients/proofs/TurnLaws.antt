@@ -1,7 +1,7 @@
 -- A turn of the loop, part by part.
 use Rattle.std.proofs.Common.{◌≡◌, ◌≢◌, ℕ, ◌+◌, ◌<◌, ◌==◌, List, [], ◌∷◌, ◌++◌, Option, Some, None, Bool, true, false}
 use Rattle.std.proofs.Common.{refl, sym, subst, ◌∙◌, ap, append_assoc, arith, inl, inr, length, zero, suc, min, drop, ◌-◌, ◌*◌, ◌≤◌}
-use Rattle.std.specs.Prelude.{IsTrue}
+use Rattle.std.specs.Prelude.{IfSome, IsTrue}
 use Rattle.std.proofs.lemmas.List.{append-nil}
 use Rattle.std.proofs.lemmas.List.Sums.{sum_by-append}
 use Rattle.std.proofs.Math.Seq.{drop-append_seam}
@@ -13,6 +13,7 @@ use Rattle.slab.specs.Slab.{Slab, get}
 use Rattle.command_text.specs.declared.request.Request.{Request}
 use Rattle.client_session.specs.Requests.{requests_in_pieces}
 use Rattle.daemon_core.specs.declared.event.Event.{Event}
+use Rattle.daemon_core.specs.declared.event.Event.TheVariants as stage_events
 use Rattle.daemon_core.specs.declared.outcome.Output.{Output}
 use Rattle.stage_workers.specs.declared.served.Served.{Served as ServedEvent}
 use Rattle.stage_workers.specs.PassState.{PassState}
@@ -27,7 +28,8 @@ use Rattle.mio_clients.specs.Connections.{ConnectionsState, IsVacant, IsAlone, w
 use Rattle.mio_clients.specs.Later.{AllGoOn, IsLater, Loses, no_bytes, no_requests, bytes_for}
 use Rattle.std.specs.List.{AllByRecursion}
 use Rattle.mio_clients.specs.Leaving.{AllLeave, IsLeft, AllFollow, IsFollowed, IsForgotten}
-use Rattle.mio_clients.specs.Waiting.{QuietBehind}
+use Rattle.mio_clients.specs.Grouping.{TakesMany}
+use Rattle.mio_clients.specs.Waiting.{QuietBehind, StaysQuiet}
 use Rattle.stage_workers.specs.declared.refusal.StageError.{StageError}
 use Rattle.mio_clients.specs.Parts.{bytes_in, bytes_of, requests_in, request_of, asked_of, served_count, refuses, RefusesLast, Serves, looks_in, looks_of, EndsWithin, IsWithin, IsKeptOf, IsKeptAs, bytes_to, bytes_to_all, sent_by, sent_by_all, sent_by_served}
 use Rattle.mio_clients.proofs.LeavingLaws.{all_of, leaves_from, leaves_lost}
@@ -263,6 +265,27 @@ module _ {S : Type 0} (remaining contents : S → Option (List ℕ)) where
       kind = ap (λ (t : PassState). t.kind) passed;
       share = ap (λ (t : PassState). t.share) passed;
       seen = (let n = ap (λ (t : PassState). t.seen) passed in omega (arith, n, grows));
+      refused = tt;
+      unrefused = λ _. refl;
+      told = λ no. absurd (cc no);
+    }
+
+    -- it was told whether there is room
+    pub serves_room : (a b : ConnectionsState S) (is_there : Bool) (s : ServedEvent D) (ps qs : List (Part D)) (x y : PassState)
+        → s.turn.asked ≡ stage_events.Room is_there → AllFollow remaining contents (sent_by_served s) no_requests a b
+        → qs ≡ ps ++ Served s ∷ [] → y ≡ record { kind = x.kind; seen = s.turn.event; share = x.share + 1 } → x.seen ≤ y.seen
+        → Serves remaining contents true a b ps qs x y
+    serves_room a b is_there s ps qs x y carried later added passed grows = record {
+      added = Served s ∷ [];
+      parts = added;
+      later = all_same remaining contents a b (sent_by_served s) (bytes_in (Served s ∷ []))
+          no_requests (requests_in (Served s ∷ []))
+          (λ i. sym (append-nil (sent_by_served s i)))
+          (λ i. ap (λ t. t ++ []) (sym (ap (asked_of i) carried)))
+          later;
+      kind = ap (λ (t : PassState). t.kind) passed;
+      share = ap (λ (t : PassState). t.share) passed;
+      seen = grows;
       refused = tt;
       unrefused = λ _. refl;
       told = λ no. absurd (cc no);
@@ -586,3 +609,14 @@ quiet_within waits zero looks total bound more es goes ends counted within h = h
 quiet_within waits (suc n) looks total bound more es goes ends counted within h =
     let yes : IsTrue more = goes (omega arith, within_counted bound looks total (omega (arith, counted)) within) in
     absurd (cc (yes, ends))
+
+-- what looked at nothing was added
+pub looks_free : {D : Type 0} (ps qs : List (Part D)) (part : Part D) → qs ≡ ps ++ part ∷ [] → looks_of part ≡ 0
+    → looks_in qs ≡ looks_in ps
+looks_free ps qs part added none = omega (arith, ap looks_in added, sum_by-append looks_of ps (part ∷ []), none)
+
+-- events were taken behind what left those that wait as they were
+pub takes_behind : (r : Option ℕ) (before between after : List ClientEvent) → StaysQuiet before between
+    → IfSome r (λ n. TakesMany n between after) → IfSome r (λ n. TakesMany n before after)
+takes_behind None before between after stays takes = tt
+takes_behind (Some n) before between after stays takes = λ waits left some quiet. takes waits left some (stays waits left quiet)

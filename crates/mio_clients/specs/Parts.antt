@@ -64,10 +64,12 @@ asked_of c (stage_events.Fed ticket frames) = []
 asked_of c (stage_events.Ended ticket) = []
 asked_of c (stage_events.Broken ticket cause) = []
 asked_of c (stage_events.Batch job changes) = []
+asked_of c (stage_events.Missing job songs) = []
 asked_of c (stage_events.ScanDone job) = []
 asked_of c (stage_events.Clock time) = []
 asked_of c (stage_events.Keep ticket) = []
 asked_of c (stage_events.Resume plays) = []
+asked_of c (stage_events.Room is_there) = []
 asked_of c (stage_events.Picture client told) = []
 
 -- a clock's event
@@ -84,6 +86,20 @@ CarriesClock (Refused error) = Unit {0}
 -- to these parts one of a clock was added, or none
 abbrev pub AddsClock : {D : Type 0} → List (Part D) → List (Part D) → Type 0
 AddsClock {D} before after = (after ≡ before) ⊎ ((part : Part D) × (after ≡ before ++ part ∷ []) × CarriesClock part)
+
+-- it was told whether there is room, or that was refused
+abbrev pub is_of_room : Event → Bool
+is_of_room (stage_events.Room is_there) = true
+is_of_room event = false
+
+abbrev pub CarriesRoom : {D : Type 0} → Part D → Type 0
+CarriesRoom (Served served) = is_of_room served.turn.asked ≡ true
+CarriesRoom (Collected outbox) = ⊥
+CarriesRoom (Refused error) = Unit {0}
+
+-- to these parts one of room was added, or none
+abbrev pub AddsRoom : {D : Type 0} → List (Part D) → List (Part D) → Type 0
+AddsRoom {D} before after = (after ≡ before) ⊎ ((part : Part D) × (after ≡ before ++ part ∷ []) × CarriesRoom part)
 
 -- the request of a client that a part carries, if it does
 abbrev pub request_of : {D : Type 0} → ℕ → Part D → List Request

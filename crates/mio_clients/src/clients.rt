@@ -170,6 +170,13 @@ impl<S: Stream, L: Listener<S>, P: Ready<S>> Clients<S, L, P> {
         self.connections.set_time(self.listener.now());
     }
 
+    // Whether none was asked in the second of the turn.
+    pub(crate) fn is_clock_due(&self) -> bool
+        ensures { result ≡ is_clock_due self.now }
+    {
+        self.connections.is_clock_due()
+    }
+
     // What a clock tells, where none was asked in the second of the turn.
     pub(crate) fn next_clock(&mut self) -> Option<ClockTime>
         ensures asked { self.new ≡ with_clock_asked self.old }
@@ -553,6 +560,18 @@ impl<S: Stream, L: Listener<S>, P: Ready<S>> Clients<S, L, P> {
         ensures { QuietBehind is_bounded result self.now.events }
     {
         self.connections.servable(is_bounded)
+    }
+
+    // How many are still to be served of these: where requests were let go of meanwhile, none of those that wait for a picture.
+    pub(crate) fn still_servable(&self, is_bounded: bool, most: usize) -> usize
+        ensures quiet { QuietBehind is_bounded most self.now.events → QuietBehind is_bounded result self.now.events }
+        ensures few { result ≤ most }
+    {
+        if !self.connections.is_waiting_next() {
+            return most;
+        }
+        let left = self.servable(is_bounded);
+        if left < most { left } else { most }
     }
 
     // How many events are served together next.

@@ -139,7 +139,14 @@ impl<S: Stream> Connections<S> {
         self.time
     }
 
-    /// Whether a clock is to be asked, since none was in the second of the turn. It counts as asked then.
+    /// Whether a clock is to be asked, since none was in the second of the turn.
+    pub(crate) fn is_clock_due(&self) -> bool
+        ensures { result ≡ is_clock_due self.now }
+    {
+        is_other_second(self.clock_second, self.time / 1_000)
+    }
+
+    /// The same, and it counts as asked then.
     pub(crate) fn asks_clock(&mut self) -> bool
         ensures due { result ≡ is_clock_due self.old }
         ensures asked { self.new ≡ with_clock_asked self.old }
@@ -591,6 +598,11 @@ impl<S: Stream> Connections<S> {
     /// Whether the first request of this client waits for a picture.
     pub(crate) fn is_seeking(&self, client: u64) -> bool {
         self.queue.is_seeking(client)
+    }
+
+    /// Whether the first event is a request that waits for a picture.
+    pub(crate) fn is_waiting_next(&self) -> bool {
+        self.queue.is_waiting_next()
     }
 
     /// How many events are to be served in a turn: all, or where turns are bounded those in front of the requests that wait for a picture.

@@ -301,6 +301,14 @@ impl EventQueue {
         }
     }
 
+    /// Whether the first event is a request that waits for a picture.
+    pub(crate) fn is_waiting_next(&self) -> bool {
+        match self.events.front() {
+            Some(event) => is_waiting(event),
+            None => false,
+        }
+    }
+
     /// Whether a request of this client waits. All events are looked at where none does.
     pub(crate) fn has_request_of(&self, client: u64) -> bool
         ensures { result ≡ has_request_of client self.now.events }

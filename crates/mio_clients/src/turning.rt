@@ -13,7 +13,7 @@ ghost use Rattle.mio_clients.specs.Later.{no_bytes, no_requests, IsLater};
 ghost use Rattle.mio_clients.specs.Leaving.{AllFollow, AllLeave};
 ghost use Rattle.mio_clients.specs.Parts.{bytes_in, requests_in, served_count, refuses, RefusesLast, IsServedAll};
 ghost use Rattle.mio_clients.specs.Parts.{sent_by, sent_by_all, sent_by_served, asked_of, IsKeptOf, IsKeptAs, KeepsNoRequest, Serves};
-ghost use Rattle.mio_clients.specs.Parts.{looks_in, looks_of, stage_event_of, goes_on_with, AddsClock, EndsWithin, IsWithin};
+ghost use Rattle.mio_clients.specs.Parts.{looks_in, looks_of, stage_event_of, goes_on_with, AddsClock, AddsRoom, EndsWithin, IsWithin};
 ghost use Rattle.mio_clients.specs.Rounds.{IsDealt};
 ghost use Rattle.mio_clients.specs.Seeking.{IsSortedOut};
 ghost use Rattle.mio_clients.specs.Yielding.{NowWaits};
@@ -251,7 +251,7 @@ impl<S: Stream, L: Listener<S>, P: Ready<S>> Clients<S, L, P> {
         pass
     }
 
-    // Tells the time, and serves the events that were gathered; `false` where one is refused.
+    // Has room made, tells the time, and serves the events that were gathered; `false` where one is refused.
     fn serve_in_time<R: Wait, D: Disk, C: Ledger, Q: Ledger, T: Ledger>(
         &mut self,
         rt: &R,
@@ -268,6 +268,13 @@ impl<S: Stream, L: Listener<S>, P: Ready<S>> Clients<S, L, P> {
         ensures bounded { EndsWithin bound (looks_in parts.new.items) }
         ensures room { result.0 ≡ true → vec_len parts.new < vec_capacity parts.new }
     {
+        // Room is made before any event; where there is none, it is looked for again with a clock.
+        let is_again = self.is_clock_due();
+        let is_bounded = bound.is_some();
+        let (goes_on, pass) = self.serve_room(rt, alloc, stage, pass, parts, is_bounded, is_again);
+        if !goes_on {
+            return (false, pass);
+        }
         let (is_told, pass) = self.serve_clock(rt, alloc, stage, pass, parts);
         if !is_told {
             return (false, pass);
@@ -316,6 +323,51 @@ impl<S: Stream, L: Listener<S>, P: Ready<S>> Clients<S, L, P> {
         }
     }
 
+    // Where turns are bounded, has the stage make room for the records of what is served next, and tells it where that has changed; `false`
+    // where the turn ends.
+    fn serve_room<R: Wait, D: Disk, C: Ledger, Q: Ledger, T: Ledger>(
+        &mut self,
+        rt: &R,
+        alloc: Global,
+        stage: &SharedStage<D, C, Q, T>,
+        pass: Pass<C, Q, T>,
+        parts: &mut Vec<Part<D>>,
+        is_bounded: bool,
+        is_again: bool,
+    ) -> (bool, Pass<C, Q, T>)
+        requires room { vec_len parts.old < vec_capacity parts.old }
+        ensures serves { Serves S.remaining S.contents result.0 self.old self.new parts.old.items parts.new.items pass result.1 }
+        ensures looks { looks_in parts.new.items ≡ looks_in parts.old.items }
+        ensures told { AddsRoom parts.old.items parts.new.items }
+        ensures unbounded { is_bounded ≡ false
+            → (result.0 ≡ true) × (result.1 ≡ pass) × (self.new ≡ self.old) × (parts.new ≡ parts.old) }
+        ensures quiet { StaysQuiet self.old.events self.new.events }
+        ensures room { result.0 ≡ true → vec_len parts.new < vec_capacity parts.new }
+    {
+        if !is_bounded {
+            return (true, pass);
+        }
+        if parts.reserve(2).is_err() {
+            parts.push_reserved(Part::Refused(StageError::NoMemory));
+            return (false, pass);
+        }
+        match stage.tell_room(rt, alloc, pass, is_again) {
+            Ok((told, pass)) => {
+                let Some(served) = told else {
+                    return (true, pass);
+                };
+                self.give_served(&served, None, Sending::AtOnce);
+                let part = Part::Served(served);
+                parts.push_reserved(part);
+                (true, pass)
+            }
+            Err((error, pass)) => {
+                parts.push_reserved(Part::Refused(error));
+                (false, pass)
+            }
+        }
+    }
+
     // Serves the events that were gathered, in order, until they looked at more than is allowed; `false` where one is refused.
     fn serve_each<R: Wait, D: Disk, C: Ledger, Q: Ledger, T: Ledger>(
         &mut self,
@@ -343,7 +395,8 @@ impl<S: Stream, L: Listener<S>, P: Ready<S>> Clients<S, L, P> {
                 return (false, passed);
             };
             pass = passed;
-            left = left.saturating_sub(count);
+            let most = left.saturating_sub(count);
+            left = self.still_servable(is_bounded, most);
             let (_, added) = parts.as_slice().split_at(from);
             let looked = looks_in(added);
             looks = looks.saturating_add(looked);
@@ -352,9 +405,34 @@ impl<S: Stream, L: Listener<S>, P: Ready<S>> Clients<S, L, P> {
         (true, pass)
     }
 
+    // Has room made, and serves the requests that stand first as a group, or the first event; it answers how many were served or let go of,
+    // or none where the turn ends.
+    fn serve_some<R: Wait, D: Disk, C: Ledger, Q: Ledger, T: Ledger>(
+        &mut self,
+        rt: &R,
+        alloc: Global,
+        stage: &SharedStage<D, C, Q, T>,
+        pass: Pass<C, Q, T>,
+        parts: &mut Vec<Part<D>>,
+        is_bounded: bool,
+    ) -> (Option<usize>, Pass<C, Q, T>)
+        requires room { vec_len parts.old < vec_capacity parts.old }
+        ensures serves { Serves S.remaining S.contents (is_some result.0) self.old self.new parts.old.items parts.new.items pass result.1 }
+        ensures some { IfSome result.0 (λ n. 0 < n) }
+        ensures quiet { IfSome result.0 (λ n. TakesMany n self.old.events self.new.events) }
+        ensures looks { looks_in parts.new.items ≤ looks_in parts.old.items + 2 * most_looks }
+        ensures room { IfSome result.0 (λ _. vec_len parts.new < vec_capacity parts.new) }
+    {
+        let (goes_on, pass) = self.serve_room(rt, alloc, stage, pass, parts, is_bounded, false);
+        if !goes_on {
+            return (None, pass);
+        }
+        self.serve_front(rt, alloc, stage, pass, parts, is_bounded)
+    }
+
     // Serves the requests that stand first as a group, or the first event; it answers how many were served or let go of, or none where the
     // turn ends.
-    fn serve_some<R: Wait, D: Disk, C: Ledger, Q: Ledger, T: Ledger>(
+    fn serve_front<R: Wait, D: Disk, C: Ledger, Q: Ledger, T: Ledger>(
         &mut self,
         rt: &R,
         alloc: Global,

@@ -5,9 +5,9 @@ use Rattle.std.proofs.lemmas.Bool.{eq-eqb}
 use Rattle.idle_masks.specs.Watched.{watched}
 use Rattle.idle_masks.specs.declared.watch.Watched.{Watched}
 use Rattle.song_db.specs.declared.change.RowChange.{RowChange}
-use Rattle.machine_core.specs.Happening.{Happening, nothing_happens}
+use Rattle.machine_core.specs.Happening.{Happening, if_room, nothing_happens}
 use Rattle.machine_core.specs.Scanning.{after_job, ends_scan, is_running, job_behind, kept_changes, telling, finds, when_found, when_scanned}
-use Rattle.machine_core.specs.State.{MachineState}
+use Rattle.machine_core.specs.State.{MachineState, lacks_room}
 use Rattle.machine_core.specs.declared.clock.ClockTime.{ClockTime}
 use Rattle.machine_core.specs.declared.job.WaitingJob.{WaitingJob}
 use Rattle.daemon_core.specs.declared.picture.PictureTold.{PictureTold}
@@ -38,12 +38,18 @@ finds_leaves n (change ∷ changes) m is = record { same = is.same; runs = is.ru
 
 batch_leaves : (n : ℕ) (changes : List RowChange) (m : MachineState) → IsRunning n m.job
     → (let h : Happening = when_found n changes m in IsRunning n h.after.job)
-batch_leaves n changes m is =
-    by_running (is_running n m)
+batch_leaves n changes m is = by_running (is_running n m)
   where
+    told : List RowChange
+    told = telling m.saved.songs (kept_changes m.saved.profile changes)
+
+    in_room : (lacks : Bool) → (let h : Happening = if lacks then nothing_happens m else finds told m in IsRunning n h.after.job)
+    in_room true = is
+    in_room false = finds_leaves n told m is
+
     by_running : (runs : Bool)
-        → (let h : Happening = if runs then finds (telling m.saved.songs (kept_changes m.saved.profile changes)) m else nothing_happens m in IsRunning n h.after.job)
-    by_running true = finds_leaves n (telling m.saved.songs (kept_changes m.saved.profile changes)) m is
+        → (let h : Happening = if runs then if_room m (finds told m) else nothing_happens m in IsRunning n h.after.job)
+    by_running true = in_room (lacks_room m)
     by_running false = is
 
 -- and which wait
@@ -55,10 +61,16 @@ batch_leaves_waiting : (n : ℕ) (changes : List RowChange) (m : MachineState)
     → (let h : Happening = when_found n changes m in h.after.waiting ≡ m.waiting)
 batch_leaves_waiting n changes m = by_running (is_running n m)
   where
+    told : List RowChange
+    told = telling m.saved.songs (kept_changes m.saved.profile changes)
+
+    in_room : (lacks : Bool) → (let h : Happening = if lacks then nothing_happens m else finds told m in h.after.waiting ≡ m.waiting)
+    in_room true = refl
+    in_room false = finds_waits told m
+
     by_running : (runs : Bool)
-        → (let h : Happening = if runs then finds (telling m.saved.songs (kept_changes m.saved.profile changes)) m else nothing_happens m in
-        h.after.waiting ≡ m.waiting)
-    by_running true = finds_waits (telling m.saved.songs (kept_changes m.saved.profile changes)) m
+        → (let h : Happening = if runs then if_room m (finds told m) else nothing_happens m in h.after.waiting ≡ m.waiting)
+    by_running true = in_room (lacks_room m)
     by_running false = refl
 
 pub batch_waits : (n : ℕ) (changes : List RowChange) (s t : State) → StepsTo (events.Batch n changes) s t

@@ -36,10 +36,12 @@ asked (events.Fed ticket frames) = events.Fed ticket frames ∷ []
 asked (events.Ended ticket) = events.Ended ticket ∷ []
 asked (events.Broken ticket cause) = events.Broken ticket cause ∷ []
 asked (events.Batch number changes) = []
+asked (events.Missing number songs) = []
 asked (events.ScanDone number) = []
 asked (events.Clock time) = []
 asked (events.Keep ticket) = []
 asked (events.Resume plays) = []
+asked (events.Room is_there) = []
 asked (events.Picture c told) = []
 
 -- what the client asked for in a history, the oldest first
@@ -70,10 +72,12 @@ ComesInTurn job (events.Fed ticket frames) = Unit {0}
 ComesInTurn job (events.Ended ticket) = Unit {0}
 ComesInTurn job (events.Broken ticket cause) = Unit {0}
 ComesInTurn job (events.Batch number changes) = IsRunning number job
+ComesInTurn job (events.Missing number songs) = IsRunning number job
 ComesInTurn job (events.ScanDone number) = IsRunning number job
 ComesInTurn job (events.Clock time) = Unit {0}
 ComesInTurn job (events.Keep ticket) = Unit {0}
 ComesInTurn job (events.Resume plays) = Unit {0}
+ComesInTurn job (events.Room is_there) = Unit {0}
 ComesInTurn job (events.Picture c told) = Unit {0}
 
 -- each event of a job came while that job ran, and each request while none did

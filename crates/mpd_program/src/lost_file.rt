@@ -10,8 +10,8 @@ use crate::journal_head::{HEAD, generation_of, number_at};
 use std::fs;
 use std::io::ErrorKind;
 
-/// A file with so many records, or with more bytes of them than these and than its snapshot, isn't in use for long: the next event makes a
-/// checkpoint to the other one.
+/// A file with so many records, or with more bytes of them than these and than its snapshot, isn't in use for long, unless the disk has no
+/// room: the next event makes a checkpoint to the other one.
 const MOST_RECORDS: u64 = 4_096;
 
 const MOST_BYTES: u64 = 4_194_304;

@@ -11,6 +11,7 @@ mod line_limit;
 mod looping;
 mod opening;
 mod pictures;
+mod room_lines;
 mod server;
 mod tally;
 mod workers;

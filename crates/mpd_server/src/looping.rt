@@ -6,6 +6,7 @@ ghost use Rattle.mio_clients.specs.Parts.{looks_in, IsServedAll, IsWithin};
 ghost use Rattle.mpd_server.specs.Turns.{turn_bound};
 
 use crate::jobs::Jobs;
+use crate::room_lines::RoomLines;
 use disk_model::Disk;
 use live_stage::Receipt;
 use log::{Log, info, warn};
@@ -137,6 +138,7 @@ pub(crate) fn run_loop<
 ) -> (Turns, Pass<C, P, S>) {
     let mut pass = pass;
     let mut turns = Turns::none();
+    let mut room = RoomLines::new();
     for _ in rt.forever() {
         match turn_under(rt, alloc, profile, stage, pass, clients) {
             Ok((parts, back)) => {
@@ -146,6 +148,7 @@ pub(crate) fn run_loop<
             // There was no memory for its answer, so that nothing was done.
             Err((_, back)) => pass = back,
         }
+        room.look(rt, profile, stage);
         if turns.is_over() || jobs.send_new(rt, alloc, stage).is_err() {
             break;
         }

@@ -259,6 +259,7 @@ impl<F: Folder, R: Log> TalliedFolder<'_, F, R> {
         let Scanned {
             replaced: changed,
             dropped: gone,
+            withheld: _,
             is_left_off: _,
         } = scanned;
         let Tally {
@@ -281,6 +282,13 @@ impl<F: Folder, R: Log> TalliedFolder<'_, F, R> {
             "update {job}: {songs} songs, {new} of them new, {changed} changed, {gone} gone; left out: {not_wave} not WAVE, {other_format} of another format, {broken} broken{hint}; not read: {folders} folders, {files} files"
         );
         self.tell_limits(job, found.saturating_sub(new));
+    }
+
+    // Says that the job would have dropped too many songs, and dropped none.
+    fn tell_withheld(&self, job: u32, missing: usize, songs: usize) {
+        warn!(self.rt;
+            "update {job} would drop {missing} of {songs} songs: is the music there? The same once more, or rescan, drops them"
+        );
     }
 
     // Says that memory ended the job. What was counted then isn't what is known now.
@@ -372,6 +380,11 @@ impl<F: Folder, R: Log + Clock> ScanFolder for TalliedFolder<'_, F, R> {
             if let Some(untold) = self.warnings.take(self.rt) {
                 self.tell_untold(job, untold);
                 self.tell_left_off(job);
+            }
+        } else if let Some((missing, songs)) = scanned.withheld {
+            if let Some(untold) = self.warnings.take(self.rt) {
+                self.tell_untold(job, untold);
+                self.tell_withheld(job, missing, songs);
             }
         } else if let Some(before) = before {
             if let Some(untold) = self.limit.take(self.rt) {

@@ -1,5 +1,5 @@
 -- Records that are added to the file in use, whichever of the two it is.
-use Rattle.std.proofs.Common.{◌≡◌, inl, ℕ, ◌+◌, ◌-◌, ◌^◌, ◌<◌, ◌≤◌, min, Bool, List, [], ◌∷◌, ◌++◌, length, take, Some, arith, ap, subst}
+use Rattle.std.proofs.Common.{◌≡◌, inl, ℕ, ◌+◌, ◌-◌, ◌^◌, ◌<◌, ◌≤◌, min, Bool, List, [], ◌∷◌, ◌++◌, length, take, drop, Some, arith, ap, subst}
 use Rattle.std.proofs.Common.{sym, ◌∙◌}
 use Rattle.std.specs.Prelude.{All, flat_map, slice_index}
 use Rattle.disk_model.specs.History.{Change}
@@ -39,10 +39,14 @@ module _ {D : Type 0} (content : D → List ℕ) (history : D → List Change) (
         (second_since (content here) (content there) end layout generation base count kept.in_use bodies added is_added short number
         (history here) (history new) (history there) kept.there_settled since)
 
-    module _ (written : content new ≡ take end (content here) ++ open_gate ∷ added) where
+    -- what stood further behind stands there still
+    abbrev pub tail : List ℕ
+    tail = drop (end + 1 + length added) (content here)
+
+    module _ (written : content new ≡ take end (content here) ++ (open_gate ∷ added ++ tail)) where
       pub added_content : content_in (content new) ≡ with_records (content_in (content here)) bodies
       added_content = longer_content (content here) (content there) end layout generation base count kept.in_use bodies added is_added short
-          number (content new) written
+          number (content new) tail written
 
       -- the journal after the last sync, whose two sums stop at the last number
       pub added_kept : (snapshot_len bytes end' count' bytes' : ℕ) → window (history new) ≡ settled (content new)
@@ -53,7 +57,7 @@ module _ {D : Type 0} (content : D → List ℕ) (history : D → List Change) (
           × IsMeasured (content_in (content new)) snapshot_len bytes'
       added_kept snapshot_len bytes end' count' bytes' is_settled small was is_end is_count is_bytes =
           let used = longer_in_use (content here) (content there) end layout generation base count kept.in_use bodies added is_added short
-          number (content new) written in
+          number (content new) tail written in
           let within = records_within (content new) (content there) _ _ _ _ _ used in
           let grown = ap (λ (c : Content). records_len c.records) added_content
           ∙ records_len-append (content_in (content here)).records bodies in

@@ -5,7 +5,7 @@ use Rattle.std.specs.Prelude.{slice_index, flat_map, unwrap_or, All}
 use Rattle.std.specs.Result.{result_ok}
 use Rattle.std.proofs.lemmas.Bool.{cases_eq}
 use Rattle.std.proofs.lemmas.Grind.{flat_map-append}
-use Rattle.std.proofs.lemmas.List.{append-nil, take_at, get_or_at, nil_from_length}
+use Rattle.std.proofs.lemmas.List.{append-nil, take_at, get_or_at}
 use Rattle.std.proofs.lemmas.List.Elements.{All-append, All-nil}
 use Rattle.disk_model.specs.History.{Change}
 use Rattle.disk_model.specs.Images.{window, settled, IsImage}
@@ -24,25 +24,16 @@ pub content-file : (bytes : List ℕ) (file : Content) → IsFile bytes file →
 content-file bytes file is = ap (λ r. unwrap_or (result_ok r) no_content) (read-file bytes file is)
 
 module _ (here there : List ℕ) (end layout generation base count : ℕ) (used : IsInUse here there end layout generation base count) where
-  -- nothing stands behind the closing gate
-  pub none_free : used.is_file.free ≡ []
-  none_free = nil_from_length used.is_file.free (omega (
-    arith,
-    ap (λ (l : List ℕ). length l) used.is_file.spelled,
-    length-append
-        (spelling used.file) (used.is_file.gate ∷ used.is_file.free),
-    used.ends,
-    used.gate,
-  ))
-
-  pub parts : here ≡ spelling used.file ++ used.is_file.gate ∷ []
-  parts = used.is_file.spelled ∙ ap (λ (l : List ℕ). spelling used.file ++ used.is_file.gate ∷ l) none_free
+  -- what stands behind the closing gate is free
+  pub parts : here ≡ spelling used.file ++ used.is_file.gate ∷ used.is_file.free
+  parts = used.is_file.spelled
 
   pub front_is : take end here ≡ spelling used.file
-  front_is = ap (λ (l : List ℕ). take end l) parts ∙ take_at (spelling used.file) (used.is_file.gate ∷ []) end used.gate
+  front_is = ap (λ (l : List ℕ). take end l) parts ∙ take_at (spelling used.file) (used.is_file.gate ∷ used.is_file.free) end used.gate
 
   pub gate_is : slice_index here end ≡ used.is_file.gate
-  gate_is = ap (λ (l : List ℕ). slice_index l end) parts ∙ get_or_at (spelling used.file) used.is_file.gate [] 0 end used.gate
+  gate_is =
+      ap (λ (l : List ℕ). slice_index l end) parts ∙ get_or_at (spelling used.file) used.is_file.gate used.is_file.free 0 end used.gate
 
   -- bytes behind the closed gate, or behind one that isn't open
   pub still_file : (x : List ℕ) (gate : ℕ) (rest : List ℕ) → (gate ≡ open_gate → ⊥) → x ≡ spelling used.file ++ gate ∷ rest
@@ -67,15 +58,19 @@ module _ (here there : List ℕ) (end layout generation base count : ℕ) (used 
         ap (λ (l : List ℕ). start ++ l) (flat_map-append gated used.file.records bodies)
         ∙ sym (append_assoc start (flat_map gated used.file.records) (flat_map gated bodies))
 
-    pub longer_file : (x : List ℕ) → x ≡ spelling used.file ++ open_gate ∷ added → IsFile x (with_records used.file bodies)
-    longer_file x is = record {
+    -- the records with what follows them
+    added_parts : (rest : List ℕ) → open_gate ∷ added ++ rest ≡ flat_map gated bodies ++ 0 ∷ rest
+    added_parts rest = ap (λ (l : List ℕ). l ++ rest) is_added ∙ append_assoc (flat_map gated bodies) (0 ∷ []) rest
+
+    pub longer_file : (x rest : List ℕ) → x ≡ spelling used.file ++ (open_gate ∷ added ++ rest) → IsFile x (with_records used.file bodies)
+    longer_file x rest is = record {
       fits = longer_fits;
       gate = 0;
-      free = [];
+      free = rest;
       closed = λ same. omega arith;
-      spelled = is ∙ ap (λ (l : List ℕ). spelling used.file ++ l) is_added
-          ∙ sym (append_assoc (spelling used.file) (flat_map gated bodies) (0 ∷ []))
-          ∙ ap (λ (l : List ℕ). l ++ 0 ∷ []) (sym longer_spelling);
+      spelled = is ∙ ap (λ (l : List ℕ). spelling used.file ++ l) (added_parts rest)
+          ∙ sym (append_assoc (spelling used.file) (flat_map gated bodies) (0 ∷ rest))
+          ∙ ap (λ (l : List ℕ). l ++ 0 ∷ rest) (sym longer_spelling);
     }
 
     -- each image is the file from before, or with all of the records
@@ -85,20 +80,21 @@ module _ (here there : List ℕ) (end layout generation base count : ℕ) (used 
         ∙ ap (λ (l : List ℕ). l ++ slice_index here end ∷ behind.0) front_is
         ∙ ap (λ (n : ℕ). spelling used.file ++ n ∷ behind.0) gate_is))
     either x (inr before) =
-        let spelled : x ≡ spelling used.file ++ before.0 ∷ added = before.1 ∙ ap (λ (l : List ℕ). l ++ before.0 ∷ added) front_is in
+        let rest : List ℕ = before.1 in
+        let spelled : x ≡ spelling used.file ++ (before.0 ∷ added ++ rest) = before.2 ∙ ap (λ (l : List ℕ). l ++ (before.0 ∷ added ++ rest)) front_is in
         elim (cases_eq before.0 open_gate) [
-          | inl opened ↦ inr (longer_file x (spelled ∙ ap (λ (n : ℕ). spelling used.file ++ n ∷ added) opened))
-          | inr closed ↦ inl (still_file x before.0 added closed spelled)
+          | inl opened ↦ inr (longer_file x rest (spelled ∙ ap (λ (n : ℕ). spelling used.file ++ (n ∷ added ++ rest)) opened))
+          | inr closed ↦ inl (still_file x before.0 (added ++ rest) closed spelled)
         ]
 
     pub before_content : used.file ≡ content_in here
     before_content = sym (content-file here used.file used.is_file)
 
     -- the file in use after the last sync
-    pub longer_in_use : (x : List ℕ) → x ≡ take end here ++ open_gate ∷ added
+    pub longer_in_use : (x rest : List ℕ) → x ≡ take end here ++ (open_gate ∷ added ++ rest)
         → IsInUse x there (end + records_len bodies) layout generation base (count + length bodies)
-    longer_in_use x is =
-        let spelled : x ≡ spelling used.file ++ open_gate ∷ added = is ∙ ap (λ (l : List ℕ). l ++ open_gate ∷ added) front_is in
+    longer_in_use x rest is =
+        let spelled : x ≡ spelling used.file ++ (open_gate ∷ added ++ rest) = is ∙ ap (λ (l : List ℕ). l ++ (open_gate ∷ added ++ rest)) front_is in
         let size : length added ≡ records_len bodies = omega (
           arith,
           ap (λ (l : List ℕ). length l) is_added,
@@ -106,12 +102,13 @@ module _ (here there : List ℕ) (end layout generation base count : ℕ) (used 
         ) in
         record {
           file = with_records used.file bodies;
-          is_file = longer_file x spelled;
+          is_file = longer_file x rest spelled;
           ends = omega (
             arith,
             ap (λ (l : List ℕ). length l) spelled,
             length-append (spelling used.file)
-                (open_gate ∷ added),
+                (open_gate ∷ added ++ rest),
+            length-append added rest,
             size,
             used.gate,
           );
@@ -128,10 +125,11 @@ module _ (here there : List ℕ) (end layout generation base count : ℕ) (used 
           other = used.other;
         }
 
-    pub longer_content : (x : List ℕ) → x ≡ take end here ++ open_gate ∷ added → content_in x ≡ with_records (content_in here) bodies
-    longer_content x is =
-        let spelled : x ≡ spelling used.file ++ open_gate ∷ added = is ∙ ap (λ (l : List ℕ). l ++ open_gate ∷ added) front_is in
-        content-file x (with_records used.file bodies) (longer_file x spelled)
+    pub longer_content : (x rest : List ℕ) → x ≡ take end here ++ (open_gate ∷ added ++ rest)
+        → content_in x ≡ with_records (content_in here) bodies
+    longer_content x rest is =
+        let spelled : x ≡ spelling used.file ++ (open_gate ∷ added ++ rest) = is ∙ ap (λ (l : List ℕ). l ++ (open_gate ∷ added ++ rest)) front_is in
+        content-file x (with_records used.file bodies) (longer_file x rest spelled)
         ∙ ap (λ (c : Content). with_records c bodies) before_content
 
     -- what a restart finds

@@ -1,4 +1,5 @@
 pub mod AddingLaws
+pub mod AheadLaws
 pub mod AppendLaws
 pub mod CheckpointLaws
 pub mod ChosenLaws

@@ -87,7 +87,7 @@ module _ (bytes : List ℕ) (generation : ℕ) (content : Content) (fits : IsByt
   cut_in_use here there end len is_cut is_len is_end below = record {
     file = own.file;
     is_file = cut_exact here len is_cut (omega arith);
-    ends = ap (λ (l : List ℕ). length l) is_cut ∙ length-take-le len bytes (omega (arith, gate_within)) ∙ is_len;
+    ends = omega (arith, ap (λ (l : List ℕ). length l) is_cut ∙ length-take-le len bytes (omega (arith, gate_within)) ∙ is_len);
     gate = own_gate ∙ sym is_end;
     laid = ap (λ (c : Content). c.layout) own.says;
     numbered = ap (λ (c : Content). c.generation) own.says;

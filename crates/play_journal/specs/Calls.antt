@@ -5,8 +5,8 @@ use Rattle.disk_model.specs.History.{Change}
 use Rattle.play_journal.specs.declared.refusal.JournalError.{JournalError}
 use Rattle.play_journal.specs.declared.refusal.JournalError.TheVariants.{DiskFault, TooLong, NumbersSpent, OldLayout}
 use Rattle.play_journal.specs.Content.{Content, IsKnownLayout, IsWrittenLayout}
-use Rattle.play_journal.specs.File.{longest_body, records_len}
-use Rattle.play_journal.specs.JournalState.{JournalState, IsMeasured}
+use Rattle.play_journal.specs.File.{longest_body, records_len, spelling}
+use Rattle.play_journal.specs.JournalState.{JournalState, IsMeasured, at_place}
 use Rattle.play_journal.specs.Pair.{AllPairsNow}
 use Rattle.play_journal.specs.Stored.{StoredParts}
 
@@ -125,3 +125,36 @@ pub record RefusesRecords {D : Type 0} (old new : JournalState D) (many : ℕ) (
       → ((result ≡ Err NumbersSpent) ↔ (2 ^ 64 ≤ old.base + old.count + many))
   pub spends : result ≡ Err DiskFault → new.is_spent ≡ true
   pub stays : OnErr result (result ≢ Err DiskFault → new ≡ old)
+
+-- the file in use
+abbrev pub in_use : {D : Type 0} → JournalState D → D
+in_use journal = at_place journal.is_in_b journal.a journal.b
+
+-- There is room for so many bytes of records: the file in use has so many behind its closing gate.
+abbrev pub HasRoom : {D : Type 0} → (D → List ℕ) → ℕ → JournalState D → Type 0
+HasRoom content bytes journal = length (spelling journal.content) + 1 + bytes ≤ length (content (in_use journal))
+
+-- the other file
+abbrev pub not_in_use : {D : Type 0} → JournalState D → D
+not_in_use journal = at_place journal.is_in_b journal.b journal.a
+
+-- There is room for a snapshot of this length: the other file has so many bytes, and those of its head and its closing gate.
+abbrev pub HasOtherRoom : {D : Type 0} → (D → List ℕ) → ℕ → JournalState D → Type 0
+HasOtherRoom content snapshot_len journal = 32 + snapshot_len + 1 ≤ length (content (not_in_use journal))
+
+-- its numbers, its layout, and which file is in use are as they were
+pub record KeepsItsNumbers {D : Type 0} (old new : JournalState D) : Type 0 where
+  pub count : new.count ≡ old.count
+  pub bytes : new.bytes ≡ old.bytes
+  pub layout : new.layout ≡ old.layout
+  pub generation : new.generation ≡ old.generation
+  pub base : new.base ≡ old.base
+  pub snapshot_len : new.snapshot_len ≡ old.snapshot_len
+  pub same_file : new.is_in_b ≡ old.is_in_b
+  pub usable : new.is_spent ≡ old.is_spent
+
+-- Room is refused where the journal is spent, and by a disk fault, which spends it.
+pub record RefusesRoom {D T : Type 0} (old new : JournalState D) (result : Result T JournalError) : Type 0 where
+  pub spent : old.is_spent ≡ true → (result ≡ Err DiskFault) × (new ≡ old)
+  pub fault : OnErr result (result ≡ Err DiskFault)
+  pub spends : result ≡ Err DiskFault → new.is_spent ≡ true

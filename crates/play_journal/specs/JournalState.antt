@@ -1,5 +1,5 @@
 -- A journal, as contracts see it.
-use Rattle.std.specs.Prelude.{◌≡◌, ℕ, ◌+◌, Bool, List, [], length, unwrap_or, if◌then◌else◌}
+use Rattle.std.specs.Prelude.{◌≡◌, ℕ, ◌+◌, ◌≤◌, Bool, List, [], length, unwrap_or, if◌then◌else◌}
 use Rattle.std.specs.Result.{result_ok}
 use Rattle.disk_model.specs.History.{Change}
 use Rattle.disk_model.specs.Images.{window, settled}
@@ -40,11 +40,11 @@ pub record IsMeasured (content : Content) (snapshot_len bytes : ℕ) : Type 0 wh
 abbrev pub at_place : {D : Type 0} → Bool → D → D → D
 at_place swapped here there = if swapped then there else here
 
--- The file in use is settled and ends with its closing gate, which stands at this offset; the other doesn't count beside it.
+-- The file in use is settled, and its closing gate stands at this offset: what follows is free. The other doesn't count beside it.
 pub record IsInUse (here there : List ℕ) (end layout generation base count : ℕ) : Type 0 where
   pub file : Content
   pub is_file : IsFile here file
-  pub ends : length here ≡ end + 1
+  pub ends : end + 1 ≤ length here
   pub gate : length (spelling file) ≡ end
   pub laid : file.layout ≡ layout
   pub numbered : file.generation ≡ generation

@@ -41,10 +41,11 @@ pub record ReadsSame (new old : List ℕ) : Type 0 where
 abbrev pub KeepsFile : List Change → List Change → Type 0
 KeepsFile old new = (x : List ℕ) → LeftSince new (length old) x → (v : List ℕ) × IsImage (window old) v × ReadsSame x v
 
--- The file from before, with other bytes behind its closed gate, or the same with some gate before the record.
+-- The file from before, with other bytes behind its closed gate, or the same with some gate before the record, behind which any bytes
+-- stand.
 abbrev pub IsAppending : List ℕ → ℕ → List ℕ → List ℕ → Type 0
 IsAppending before gate added image =
-    ((rest : List ℕ) × (image ≡ before ++ gate ∷ rest)) ⊎ ((byte : ℕ) × (image ≡ before ++ byte ∷ added))
+    ((rest : List ℕ) × (image ≡ before ++ gate ∷ rest)) ⊎ ((byte : ℕ) × (rest : List ℕ) × (image ≡ before ++ (byte ∷ added ++ rest)))
 
 -- the files are wrong in this way, or the call gave up before it knew
 abbrev pub IsCause : {X : Type 0} → Result X JournalError → JournalError → Type 0

@@ -1,5 +1,5 @@
 // The device calls that add a record.
-ghost use Rattle.std.specs.Prelude.{◌≡◌, ◌≢◌, ◌+◌, ◌-◌, ◌^◌, ◌<◌, ◌≤◌, [], ◌∷◌, ◌++◌, length, take, slice_index, vec_capacity, OnOk};
+ghost use Rattle.std.specs.Prelude.{◌≡◌, ◌≢◌, ◌+◌, ◌-◌, ◌^◌, ◌<◌, ◌≤◌, [], ◌∷◌, ◌++◌, length, take, drop, slice_index, vec_capacity, OnOk};
 ghost use Rattle.std.specs.Prelude.{OnErr};
 ghost use Rattle.std.specs.Int.{w32, to_le_bytes};
 ghost use Rattle.disk_model.specs.Faults.{HasGrown};
@@ -42,20 +42,21 @@ pub(crate) fn put_behind(buffer: &mut Vec<u8>, body: &[u8])
     buffer.push_reserved(CLOSED);
 }
 
-// Writes records behind the closed gate at the end of a settled file, and then opens the gate: four calls of the disk.
+// Writes records behind the closed gate of a settled file, over what is free there, and then opens the gate: four calls of the disk.
 pub(crate) fn append_at<D: Disk>(disk: &mut D, gate: u64, added: &[u8]) -> Result<(), JournalError>
     ensures later { IsLater D.honest D.history D.faults disk.old disk.new }
     ensures any_moment { D.honest disk.old → window (D.history disk.old) ≡ settled (D.content disk.old)
-        → length (D.content disk.old) ≡ gate + 1
+        → gate + 1 ≤ length (D.content disk.old)
         → AllSince (IsAppending (take gate (D.content disk.old)) (slice_index (D.content disk.old) gate) added.now) (D.history disk.new)
         (length (D.history disk.old)) }
-    ensures settled { D.honest disk.old → length (D.content disk.old) ≡ gate + 1
+    ensures settled { D.honest disk.old → gate + 1 ≤ length (D.content disk.old)
         → OnOk result (window (D.history disk.new) ≡ settled (D.content disk.new)) }
-    ensures written { D.honest disk.old → length (D.content disk.old) ≡ gate + 1
-        → OnOk result (D.content disk.new ≡ take gate (D.content disk.old) ++ open_gate ∷ added.now) }
+    ensures written { D.honest disk.old → gate + 1 ≤ length (D.content disk.old)
+        → OnOk result (D.content disk.new ≡ take gate (D.content disk.old) ++ (open_gate ∷ added.now
+        ++ drop (gate + 1 + length added.now) (D.content disk.old))) }
     ensures calls { D.honest disk.old → OnOk result (length (D.history disk.new) ≡ length (D.history disk.old) + 4) }
     ensures error { OnErr result (result ≡ Err JournalError.DiskFault) }
-    ensures fault { D.honest disk.old → length (D.content disk.old) ≡ gate + 1
+    ensures fault { D.honest disk.old → gate + 1 ≤ length (D.content disk.old)
         → OnErr result (HasGrown (D.faults disk.old) (D.faults disk.new)) }
     ensures met_none { OnOk result (D.faults disk.new ≡ D.faults disk.old) }
 {

@@ -26,6 +26,7 @@ use std::alloc::Global;
 use std::marker::Model;
 use std::mem;
 
+mod ahead;
 mod groups;
 
 /// A journal over two files: a snapshot, and records behind it, each of which was on the disk when the call that added it returned.

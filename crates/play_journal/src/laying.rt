@@ -89,7 +89,7 @@ fn needs_closing<D: Disk>(disk: &mut D) -> Result<bool, JournalError>
 }
 
 // Syncs a file, and closes its gate if it has to be closed.
-fn close_gate<D: Disk>(disk: &mut D) -> Result<(), JournalError>
+pub(crate) fn close_gate<D: Disk>(disk: &mut D) -> Result<(), JournalError>
     ensures later { IsLater D.honest D.history D.faults disk.old disk.new }
     ensures any_moment { D.honest disk.old → window (D.history disk.old) ≡ settled (D.content disk.old)
         → AllSince (IsSameOrShut (D.content disk.old)) (D.history disk.new) (length (D.history disk.old)) }

@@ -1,4 +1,5 @@
 pub mod EntryLaws
 pub mod GroupLaws
+pub mod RoomLaws
 pub mod SettlingLaws
 pub mod Sounding

@@ -10,3 +10,4 @@ pub mod Working
 pub mod Played
 pub mod Replacing
 pub mod Scanning
+pub mod Room

@@ -10,7 +10,7 @@ use crate::{Pass, StageError};
 use crossbeam_channel::Receiver;
 use disk_model::Disk;
 use no_memory::NoMemory;
-use song_db::{MAX_CHANGES, Scan, ScanOrder};
+use song_db::{MAX_CHANGES, RowChange, Scan, ScanOrder};
 use song_files::Folder;
 use song_output::{Gate, GatedFolder};
 use state_codec::Changes;
@@ -24,8 +24,10 @@ use std::time::Clock;
 pub struct Scanned {
     /// How many songs that were known have another row since.
     pub replaced: usize,
-    /// How many songs that were known aren't any more.
+    /// How many songs that were known aren't any more; of one that is left off or cut off under rules that keep stamps, how many it missed.
     pub dropped: usize,
+    /// Of which none was dropped because they were too many: how many, and of how many songs.
+    pub withheld: Option<(usize, usize)>,
     /// Memory ran out: what it found since its last report is lost, and what it had not read yet is as it was. One that the stage's end cut
     /// off is not left off.
     pub is_left_off: bool,
@@ -53,6 +55,9 @@ impl<F: ScanFolder, G: Gate> ScanFolder for GatedFolder<'_, F, G> {
 
 /// Carries out one scan: its batches are read without the lock, and each is reported; at last comes its end, `ScanDone`.
 ///
+/// Under rules that keep stamps, songs that are missing are dropped last: how many they are is reported before the first, and where the job
+/// is over by that, none is. Till then their names are held in memory.
+///
 /// A report that finds no memory is made again until it does. Where the reading finds none, the scan is left off: its end is reported, and
 /// what was not reported before keeps its row. It ends early where the stage is closed once a batch was reported, and by a report that is
 /// refused. Beside the pass it answers what the scan came to.
@@ -66,11 +71,42 @@ pub fn scan_once<D: Disk, C: Ledger, P: Ledger, S: Ledger, F: Folder, R: Wait + 
     ensures honest { F.honest folder.old → F.honest folder.new × (F.files folder.new ≡ F.files folder.old) }
 {
     let job = order.job();
+    // The rules of the named profile keep no stamps: then nothing is withheld, and each batch is reported as it was read.
+    let drops_last = order.rules().keeps_stamps;
+    let mut missing = Vec::new(worker.alloc);
+    let (pass, scanned, is_closed) = report_songs(worker, pass, folder, order, &mut missing)?;
+    if is_closed {
+        return Ok((pass, scanned));
+    }
+    if drops_last && !scanned.is_left_off {
+        let (pass, scanned) = end_behind_missing(worker, pass, job, scanned, missing)?;
+        return Ok((pass, scanned));
+    }
+    let pass = worker.report(pass, &Report::ScanDone { job })?;
+    Ok((pass, scanned))
+}
+
+// Reads the batches, and reports each but for the songs that are dropped last, which are added to the others that are. It answers what they
+// come to, and whether the stage is closed, once a batch was reported.
+fn report_songs<D: Disk, C: Ledger, P: Ledger, S: Ledger, F: Folder, R: Wait + Clock, K: Wake>(
+    worker: &Worker<'_, D, C, P, S, R, K>,
+    pass: Pass<C, P, S>,
+    folder: &mut F,
+    order: ScanOrder,
+    missing: &mut Vec<Changes>,
+) -> Result<(Pass<C, P, S>, Scanned, bool), (StageError, Pass<C, P, S>)>
+    ensures worked { MatchResult result (λ r. GoesOn pass r.0) (λ e. GoesOn pass e.1) }
+    ensures closed { IfOk result (λ r. r.2 ≡ true → HasWorked pass r.0) }
+    ensures honest { F.honest folder.old → F.honest folder.new × (F.files folder.new ≡ F.files folder.old) }
+{
+    let job = order.job();
+    let drops_last = order.rules().keeps_stamps;
     let mut pass = pass;
     // Until its end is found.
     let mut scanned = Scanned {
         replaced: 0,
         dropped: 0,
+        withheld: None,
         is_left_off: true,
     };
     if let Ok(mut scan) = Scan::begin(worker.alloc, order) {
@@ -83,15 +119,25 @@ pub fn scan_once<D: Disk, C: Ledger, P: Ledger, S: Ledger, F: Folder, R: Wait + 
                 break;
             };
             let is_last = changes.as_slice().len() < MAX_CHANGES;
-            // No other thread changes rows, so that they are the same at the report.
-            let replaced = worker.stage.count_replaced(worker.rt, changes.as_slice());
             let dropped = count_dropped(changes.as_slice());
-            pass = worker.report(pass, &Report::Batch { job, changes })?;
-            scanned.replaced = scanned.replaced.saturating_add(replaced);
+            let songs = if drops_last {
+                without_missing(worker.alloc, changes, missing)
+            } else {
+                Ok(Some(changes))
+            };
+            let Ok(songs) = songs else {
+                break;
+            };
             scanned.dropped = scanned.dropped.saturating_add(dropped);
-            if worker.stage.is_closed(worker.rt) {
-                scanned.is_left_off = false;
-                return Ok((pass, scanned));
+            if let Some(changes) = songs {
+                // No other thread changes rows, so that they are the same at the report.
+                let replaced = worker.stage.count_replaced(worker.rt, changes.as_slice());
+                pass = worker.report(pass, &Report::Batch { job, changes })?;
+                scanned.replaced = scanned.replaced.saturating_add(replaced);
+                if worker.stage.is_closed(worker.rt) {
+                    scanned.is_left_off = false;
+                    return Ok((pass, scanned, true));
+                }
             }
             // A batch that isn't full is the last: so memory isn't asked for what nobody needs.
             if is_last {
@@ -100,8 +146,79 @@ pub fn scan_once<D: Disk, C: Ledger, P: Ledger, S: Ledger, F: Folder, R: Wait + 
             }
         }
     }
+    Ok((pass, scanned, false))
+}
+
+// Reports how many songs are missing, drops them where the job isn't over by that, and reports its end.
+fn end_behind_missing<D: Disk, C: Ledger, P: Ledger, S: Ledger, R: Wait + Clock, K: Wake>(
+    worker: &Worker<'_, D, C, P, S, R, K>,
+    pass: Pass<C, P, S>,
+    job: u32,
+    scanned: Scanned,
+    missing: Vec<Changes>,
+) -> Result<(Pass<C, P, S>, Scanned), (StageError, Pass<C, P, S>)>
+    ensures { MatchResult result (λ r. HasWorked pass r.0) (λ e. GoesOn pass e.1) }
+{
+    let mut scanned = scanned;
+    let songs = scanned.dropped;
+    let pass = worker.report(pass, &Report::Missing { job, songs })?;
+    scanned.withheld = worker.stage.withheld(worker.rt, job);
+    if scanned.withheld.is_some() {
+        scanned.dropped = 0;
+        return Ok((pass, scanned));
+    }
+    let pass = drop_missing(worker, pass, job, missing)?;
+    if worker.stage.is_closed(worker.rt) {
+        return Ok((pass, scanned));
+    }
     let pass = worker.report(pass, &Report::ScanDone { job })?;
     Ok((pass, scanned))
+}
+
+// The changes of a batch but for those that drop a song, which are added to the others that do; none where all do.
+fn without_missing(
+    alloc: Global,
+    changes: Changes,
+    missing: &mut Vec<Changes>,
+) -> Result<Option<Changes>, NoMemory> {
+    if count_dropped(changes.as_slice()) == 0 {
+        return Ok(Some(changes));
+    }
+    let mut songs = Vec::new(alloc);
+    let mut dropped = Vec::new(alloc);
+    for change in changes.into_vec() {
+        match change {
+            RowChange::Put(_) => songs.push(change)?,
+            RowChange::Drop(_) => dropped.push(change)?,
+        }
+    }
+    if let Some(dropped) = Changes::new(dropped) {
+        missing.push(dropped)?;
+    }
+    Ok(Changes::new(songs))
+}
+
+// Reports the changes that drop a song, until the stage is closed.
+fn drop_missing<D: Disk, C: Ledger, P: Ledger, S: Ledger, R: Wait + Clock, K: Wake>(
+    worker: &Worker<'_, D, C, P, S, R, K>,
+    pass: Pass<C, P, S>,
+    job: u32,
+    missing: Vec<Changes>,
+) -> Result<Pass<C, P, S>, (StageError, Pass<C, P, S>)>
+    ensures { MatchResult result (GoesOn pass) (λ e. GoesOn pass e.1) }
+{
+    let mut pass = pass;
+    for drops in missing {
+        if worker.stage.is_closed(worker.rt) {
+            break;
+        }
+        let batch = Report::Batch {
+            job,
+            changes: drops,
+        };
+        pass = worker.report(pass, &batch)?;
+    }
+    Ok(pass)
 }
 
 /// What the scan finds next, as a batch; nothing at its end, which takes no memory. It refuses where memory runs out: what was found since

@@ -1,5 +1,6 @@
 // The stage that threads share.
-ghost use Rattle.std.specs.Prelude.{◌≡◌, ◌≢◌, ◌+◌, ◌*◌, ◌<◌, ◌≤◌, [], length, sum_by, IfOk, IfErr};
+ghost use Rattle.std.specs.Prelude.{◌≡◌, ◌≢◌, ◌+◌, ◌*◌, ◌<◌, ◌≤◌, [], length, sum_by, Bool, None, IfOk, IfErr, IfSome};
+ghost use Rattle.daemon_core.specs.declared.event.Event.TheVariants as events;
 ghost use Rattle.live_stage.specs.Group.{AreParted, answer_looks};
 ghost use Rattle.machine_core.specs.Looks.{max_looks};
 ghost use Rattle.stage_workers.specs.PassState.{new_pass};
@@ -15,8 +16,10 @@ use daemon_core::Event;
 use disk_model::Disk;
 use live_stage::{Live, LiveError, Receipt};
 use player_core::Order;
+use profile::Profile;
 use song_db::{RowChange, ScanOrder};
 use std::alloc::Global;
+use std::io;
 use std::sync::ledger::Ledger;
 use std::sync::{Condvar, Mutex, Wait};
 
@@ -51,7 +54,8 @@ impl<D: Disk, C: Ledger, P: Ledger, S: Ledger> SharedStage<D, C, P, S> {
         laws::passed(&mut *self.locked.lock(rt), kind)
     }
 
-    /// Handles one event, and hands over its answer with all that was left in the outbox: `laws::enter` by `Way::Serve`.
+    /// Handles one event, and hands over its answer with all that was left in the outbox: `laws::enter` by `Way::Serve`, behind
+    /// `laws::put_off_due`.
     ///
     /// It refuses in the order `Broken` (from before), `Rewound`, `NumbersSpent`, `NoMemory`, `Broken` (by a disk fault now), and then
     /// hands the pass back as it was.
@@ -70,6 +74,7 @@ impl<D: Disk, C: Ledger, P: Ledger, S: Ledger> SharedStage<D, C, P, S> {
     {
         let mut pass = pass;
         let mut guard = self.locked.lock(rt);
+        laws::put_off_due(&mut *guard);
         let entered = laws::enter(&mut *guard, alloc, &mut pass, event, Way::Serve);
         let is_playing = guard.live.is_playing();
         drop(guard);
@@ -81,8 +86,65 @@ impl<D: Disk, C: Ledger, P: Ledger, S: Ledger> SharedStage<D, C, P, S> {
         }
     }
 
+    /// Makes room on the disk for the records of what comes next (`laws::made_room`), and tells the stage where that has changed: one event
+    /// then, whose answer is handed over with all that was left in the outbox. Under the first profile nothing is done.
+    ///
+    /// It refuses as `made_room`, and then as `serve`.
+    #[tactic(auto, using(crate::proofs::RoomLaws::refuses_unseen))]
+    pub fn tell_room(
+        &self,
+        rt: &impl Wait,
+        alloc: Global,
+        pass: Pass<C, P, S>,
+        is_again: bool,
+    ) -> Result<(Option<Served<D>>, Pass<C, P, S>), (StageError, Pass<C, P, S>)>
+        ensures none { IfOk result (λ r. r.0 ≡ None → r.1 ≡ pass) }
+        ensures told { IfOk result (λ r. IfSome r.0 (λ served. (answer_looks served.turn ≡ 0)
+            × (r.1 ≡ record { kind = pass.kind; seen = served.turn.event; share = pass.share + 1 }))) }
+        ensures room { IfOk result (λ r. IfSome r.0 (λ served. (is_there : Bool) × (served.turn.asked ≡ events.Room is_there))) }
+        ensures later { IfOk result (λ r. pass.seen ≤ r.1.seen) }
+        ensures refused { IfErr result (λ e. e.1 ≡ pass) }
+        ensures rewound { IfErr result (λ e. TellsRewound pass e.0) }
+    {
+        let mut pass = pass;
+        let mut guard = self.locked.lock(rt);
+        let is_there = match laws::made_room(&mut *guard, is_again) {
+            Ok(Some(is_there)) => is_there,
+            Ok(None) => return Ok((None, pass)),
+            Err(error) => return Err((error, pass)),
+        };
+        match laws::enter(
+            &mut *guard,
+            alloc,
+            &mut pass,
+            Event::Room { is_there },
+            Way::Serve,
+        ) {
+            Ok(served) => Ok((served, pass)),
+            Err(error) => Err((error, pass)),
+        }
+    }
+
+    /// For which file room was refused last, whether file b, at which call, and what the system said, if any was. It is no event.
+    pub fn room_refusal(&self, rt: &impl Wait) -> Option<(bool, &'static str, io::Error)> {
+        self.locked.lock(rt).live.room_refusal()
+    }
+
+    /// Whether room is made on the disk before records need it, as with the wide profile. It is no event.
+    pub fn makes_room(&self, rt: &impl Wait) -> bool {
+        match self.locked.lock(rt).live.profile() {
+            Profile::Named => false,
+            Profile::Wide => true,
+        }
+    }
+
+    /// Whether what is saved can't change, since the disk has no room. It is no event.
+    pub fn lacks_room(&self, rt: &impl Wait) -> bool {
+        self.locked.lock(rt).live.lacks_room()
+    }
+
     /// Handles events in order as a group, whose records reach the disk together, and hands over their answers with all that was left in
-    /// the outbox: `laws::enter_group`, in one holding of the lock.
+    /// the outbox: `laws::put_off_due` and `laws::enter_group`, in one holding of the lock.
     ///
     /// It refuses as `serve` does. What is refused is the first event alone, or, by a disk fault now, all that were begun; the others are
     /// handed back, and the pass as it was.
@@ -104,6 +166,7 @@ impl<D: Disk, C: Ledger, P: Ledger, S: Ledger> SharedStage<D, C, P, S> {
     {
         let mut pass = pass;
         let mut guard = self.locked.lock(rt);
+        laws::put_off_due(&mut *guard);
         let entered = laws::enter_group(&mut *guard, alloc, &mut pass, events);
         let is_playing = guard.live.is_playing();
         drop(guard);
@@ -114,9 +177,9 @@ impl<D: Disk, C: Ledger, P: Ledger, S: Ledger> SharedStage<D, C, P, S> {
         }
     }
 
-    /// Handles one event, and leaves its outputs in the outbox: `laws::enter` by `Way::Report`.
+    /// Handles one event, and leaves its outputs in the outbox: `laws::enter` by `Way::Report`, behind `laws::put_off_due`.
     ///
-    /// It refuses as `serve` does.
+    /// It refuses as `serve` does, and by `NoMemory` also what waits for room on the disk, by `laws::waits_for_room`.
     pub fn report(
         &self,
         rt: &impl Wait,
@@ -132,6 +195,10 @@ impl<D: Disk, C: Ledger, P: Ledger, S: Ledger> SharedStage<D, C, P, S> {
     {
         let mut pass = pass;
         let mut guard = self.locked.lock(rt);
+        if laws::waits_for_room(&*guard, &event) {
+            return Err((StageError::NoMemory, pass));
+        }
+        laws::put_off_due(&mut *guard);
         let entered = laws::enter(&mut *guard, alloc, &mut pass, event, Way::Report);
         let is_playing = guard.live.is_playing();
         drop(guard);
@@ -187,6 +254,12 @@ impl<D: Disk, C: Ledger, P: Ledger, S: Ledger> SharedStage<D, C, P, S> {
     /// How many of these changes put another row in the place of a song's, by `laws::count_replaced`. It is no event.
     pub fn count_replaced(&self, rt: &impl Wait, changes: &[RowChange]) -> usize {
         laws::count_replaced(&*self.locked.lock(rt), changes)
+    }
+
+    /// How many songs this job missed, and of how many, where it dropped none because they were too many, by `laws::withheld`. It is no
+    /// event.
+    pub fn withheld(&self, rt: &impl Wait, job: u32) -> Option<(usize, usize)> {
+        laws::withheld(&*self.locked.lock(rt), job)
     }
 
     /// Tells the workers to end, by `laws::closed`, and wakes the player. It is no event.

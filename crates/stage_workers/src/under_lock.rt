@@ -1,24 +1,30 @@
 // What the calls of a shared stage do while they hold the lock.
-ghost use Rattle.std.specs.Prelude.{◌≡◌, ◌↔◌, ◌+◌, ◌<◌, ◌≤◌, true, false, List, []};
-ghost use Rattle.std.specs.Prelude.{IsErr, IfOk, IfErr, OnErr, OnOk, MatchResult, option_map};
+ghost use Rattle.std.specs.Prelude.{◌≡◌, ◌⊎◌, ◌↔◌, ◌+◌, ◌<◌, ◌≤◌, true, false, List, []};
+ghost use Rattle.std.specs.Prelude.{IsErr, IfOk, IfErr, OnErr, OnOk, Ok, None, MatchResult, option_map};
 ghost use Rattle.disk_model.specs.Later.{AreLater};
 ghost use Rattle.daemon_core.specs.Orders.{play_order, scan_order};
 ghost use Rattle.daemon_core.specs.Replay.{Entry};
 ghost use Rattle.daemon_core.specs.Seen.{view_of};
 ghost use Rattle.live_stage.specs.Group.{EndsThere, IsOfFront, history_in};
-ghost use Rattle.live_stage.specs.Turns.{RefusesToTell};
+ghost use Rattle.live_stage.specs.Turns.{LooksForRoom, RefusesToTell};
 ghost use Rattle.stage_workers.specs.declared.kind.Kind.{Kind};
 ghost use Rattle.stage_workers.specs.PassState.{new_pass};
 ghost use Rattle.stage_workers.specs.Books.{events_of, left_of, with_pass};
 ghost use Rattle.stage_workers.specs.LockState.{first_lock, FindsItsState};
 ghost use Rattle.stage_workers.specs.Entry.{IsEntered, IsCounted, AnyMoment, TellsFaults, RefusesInOrder};
 ghost use Rattle.stage_workers.specs.Group.{AreCounted, FindsNoneOrAll, IsGroupEntered, RefusesFrontOf, as_an_event};
-ghost use Rattle.stage_workers.specs.Replacing.{count_replaced};
+ghost use Rattle.profile.specs.declared.profile.Profile.TheVariants.{Named, Wide};
+ghost use Rattle.stage_workers.specs.Replacing.{count_replaced, missed_by};
+ghost use Rattle.machine_core.specs.State.{lacks_room};
+ghost use Rattle.live_stage.specs.Numbers.{is_due, put_off};
+ghost use Rattle.stage_workers.specs.Room.{FindsRoomFor, FindsTheSame, IsRestKept, TellsRoom, WaitsWhereDue};
+ghost use Rattle.stage_workers.specs.Room.{is_batch, is_resume, may_record};
 ghost use Rattle.stage_workers.specs.Settling.{AddsUp, AllAgree, IsReason, shares_in};
 
 use crate::books::Books;
 use crate::grouping::{behind_first, counted_group};
 use crate::locked::counted_turn;
+use crate::refusal::refusal_of;
 use crate::replacing::count_in;
 use crate::settling::{ReturnedBooks, first_foreign};
 use crate::{
@@ -29,10 +35,14 @@ use daemon_core::Event;
 use disk_model::Disk;
 use live_stage::{Live, LiveError, Receipt, Turns};
 use player_core::Order;
+use profile::Profile;
 use song_db::{RowChange, ScanOrder};
 use std::alloc::Global;
 use std::mem;
 use std::sync::ledger::Ledger;
+
+/// Where there is no room, it is looked for once in so many seconds.
+const ROOM_EVERY: u64 = 5;
 
 /// What is put under the lock: a stage that has had no event.
 pub fn locked<D: Disk, C: Ledger, P: Ledger, S: Ledger>(
@@ -191,6 +201,146 @@ pub fn enter_group<D: Disk, C: Ledger, P: Ledger, S: Ledger>(
     })
 }
 
+/// The next turn makes no checkpoint that is due: that is made once there is room for it, by `made_room`. Under the first profile nothing
+/// is done.
+pub fn put_off_due<D: Disk, C: Ledger, P: Ledger, S: Ledger>(locked: &mut Locked<D, C, P, S>)
+    ensures named { locked.old.live.state.machine.saved.profile ≡ Named → locked.new ≡ locked.old }
+    ensures wide { locked.old.live.state.machine.saved.profile ≡ Wide
+        → locked.new ≡ record locked.old { live = record locked.old.live { file = put_off locked.old.live.file } } }
+{
+    locked.live.put_off_due();
+}
+
+/// Makes room for the records of what comes next, and says whether there is any, where the stage was told otherwise: that is to be told it
+/// then. Where it was told that there is none, it is looked for again only where that is asked for, once in five seconds by its clock. Under
+/// the first profile nothing is done.
+///
+/// It refuses in the order `Broken` (from before), `NumbersSpent` (a checkpoint is due, and the last generation is 2^64 - 1), `Broken` (by a
+/// disk fault now). It takes no memory.
+pub fn made_room<D: Disk, C: Ledger, P: Ledger, S: Ledger>(
+    locked: &mut Locked<D, C, P, S>,
+    is_again: bool,
+) -> Result<Option<bool>, StageError>
+    ensures named { locked.old.live.state.machine.saved.profile ≡ Named → (result ≡ Ok None) × (locked.new ≡ locked.old) }
+    ensures told { IfOk result (λ told. TellsRoom D.honest D.content locked.old.live locked.new.live told) }
+    ensures looks { OnOk result ((locked.new.live ≡ locked.old.live) ⊎ LooksForRoom locked.old.live locked.new.live) }
+    ensures rest { IsRestKept locked.old locked.new }
+    ensures refuses { IfErr result (λ e. (e ≡ StageError.Broken) ⊎ (e ≡ StageError.NumbersSpent)) }
+
+    // Stopped at any moment, a restart finds the same saved state; from then on, the stage's own.
+    ensures any_moment { D.honest locked.old.live.a → D.honest locked.old.live.b → locked.old.live.is_broken ≡ false
+        → FindsTheSame D.history locked.old.live locked.new.live }
+    ensures kept { FindsItsState D.honest D.history locked.new.live }
+    ensures sum { locked.new.live.numbers.event ≡ events_of locked.new.books }
+    // That there is no room is no fault.
+    ensures fault { TellsFaults D.honest D.faults locked.old.live locked.new.live result }
+    ensures disks { AreLater D.honest D.history D.faults locked.old.live.a locked.old.live.b locked.new.live.a locked.new.live.b }
+{
+    if let Profile::Named = locked.live.profile() {
+        return Ok(None);
+    }
+    let lacks = locked.live.lacks_room();
+    if lacks && is_too_early(locked, is_again) {
+        return Ok(None);
+    }
+    let is_there = match locked.live.make_room() {
+        Ok(is_there) => is_there,
+        Err(error) => return Err(refusal_of(error)),
+    };
+    if is_there != lacks {
+        return Ok(None);
+    }
+    Ok(Some(is_there))
+}
+
+// Where there is no room, it isn't looked for again yet.
+fn is_too_early<D: Disk, C: Ledger, P: Ledger, S: Ledger>(
+    locked: &Locked<D, C, P, S>,
+    is_again: bool,
+) -> bool {
+    !is_again || locked.live.clock().uptime % ROOM_EVERY != 0
+}
+
+/// Whether an event of a worker waits for the disk: while a checkpoint is due, for which room is made first, and until there is room for its
+/// record, and for a group behind it. While what is saved can't change, what a scan found waits, and nothing else. None waits once the
+/// workers are to end, or the stage is broken, nor does the event with which a life begins.
+#[tactic(auto, using(crate::proofs::RoomLaws::resume_apart))]
+pub fn waits_for_room<D: Disk, C: Ledger, P: Ledger, S: Ledger>(
+    locked: &Locked<D, C, P, S>,
+    event: &Event,
+) -> bool
+    ensures closed { locked.now.is_closed ≡ true → result ≡ false }
+    ensures first { is_resume event.now ≡ true → result ≡ false }
+    ensures named { locked.now.live.state.machine.saved.profile ≡ Named → result ≡ false }
+    ensures due { WaitsWhereDue event.now result locked.now.live locked.now.is_closed }
+    ensures without_record { is_due locked.now.live.file ≡ false → may_record event.now ≡ false → result ≡ false }
+    ensures full { is_due locked.now.live.file ≡ false → lacks_room locked.now.live.state.machine ≡ true
+        → locked.now.live.is_broken ≡ false → locked.now.is_closed ≡ false → result ≡ is_batch event.now }
+    ensures room { D.honest locked.now.live.a → D.honest locked.now.live.b
+        → FindsRoomFor D.content event.now result locked.now.live locked.now.is_closed }
+{
+    if locked.is_closed || locked.live.is_broken() || is_resume(event) {
+        return false;
+    }
+    if let Profile::Named = locked.live.profile() {
+        return false;
+    }
+    if locked.live.is_checkpoint_due() {
+        return true;
+    }
+    lacks_room_for(locked, event)
+}
+
+// Where no checkpoint is due.
+fn lacks_room_for<D: Disk, C: Ledger, P: Ledger, S: Ledger>(
+    locked: &Locked<D, C, P, S>,
+    event: &Event,
+) -> bool
+    ensures without_record { may_record event.now ≡ false → result ≡ false }
+    ensures full { lacks_room locked.now.live.state.machine ≡ true → result ≡ is_batch event.now }
+    ensures room { D.honest locked.now.live.a → D.honest locked.now.live.b
+        → FindsRoomFor D.content event.now result locked.now.live locked.now.is_closed }
+{
+    if !may_record(event) {
+        return false;
+    }
+    if locked.live.lacks_room() {
+        return is_batch(event);
+    }
+    !locked.live.has_enough_room()
+}
+
+// Whether a life begins with it.
+fn is_resume(event: &Event) -> bool
+    ensures { result ≡ is_resume event.now }
+{
+    match event {
+        Event::Resume { .. } => true,
+        _ => false,
+    }
+}
+
+// Whether an event of a worker may make a record.
+fn may_record(event: &Event) -> bool
+    ensures { result ≡ may_record event.now }
+{
+    match event {
+        Event::Ended { .. } | Event::Broken { .. } | Event::Batch { .. } | Event::Keep { .. } =>
+            true,
+        _ => false,
+    }
+}
+
+// Whether it is what a scan found.
+fn is_batch(event: &Event) -> bool
+    ensures { result ≡ is_batch event.now }
+{
+    match event {
+        Event::Batch { .. } => true,
+        _ => false,
+    }
+}
+
 /// Refuses a pass that has seen more events than there were.
 pub fn rewound(seen: u64, found: u64) -> Result<(), StageError>
     ensures { MatchResult result (λ _. seen ≤ found) (λ e. (e ≡ StageError.Rewound seen found) × (found < seen)) }
@@ -275,6 +425,19 @@ pub fn count_replaced<D: Disk, C: Ledger, P: Ledger, S: Ledger>(
     ensures { result ≡ count_replaced locked.now.live.state.machine.saved.songs changes.now }
 {
     count_in(locked.live.songs(), changes)
+}
+
+/// How many songs this job missed, and of how many, where it dropped none because they were too many. It takes no memory.
+pub fn withheld<D: Disk, C: Ledger, P: Ledger, S: Ledger>(
+    locked: &Locked<D, C, P, S>,
+    job: u32,
+) -> Option<(usize, usize)>
+    ensures { result ≡ missed_by job locked.now.live.state.machine.withheld }
+{
+    match locked.live.withheld() {
+        Some(withheld) if withheld.number == job => Some((withheld.missing, withheld.songs)),
+        Some(_) | None => None,
+    }
 }
 
 /// Tells the workers to end.

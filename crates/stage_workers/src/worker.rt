@@ -16,6 +16,9 @@ use std::time::{Clock, Duration};
 // So many milliseconds a worker waits where memory was wanting, before it tries again.
 const PAUSE: u64 = 1;
 
+// And where the disk has no room for it.
+const FULL_PAUSE: u64 = 200;
+
 /// Who is to be told that a worker has made an event, as a loop that waits for clients: the event may have left something for them.
 pub trait Wake {
     fn wake(&self);
@@ -48,6 +51,7 @@ pub(crate) enum Report {
     Ended { ticket: u64 },
     Broken { ticket: u64, cause: BrokenCause },
     Batch { job: u32, changes: Changes },
+    Missing { job: u32, songs: usize },
     ScanDone { job: u32 },
     Keep { ticket: u64 },
     Resume { plays: bool },
@@ -69,6 +73,10 @@ impl Report {
             Report::Batch { job, changes } => Event::Batch {
                 job: *job,
                 changes: changes.try_clone(alloc)?,
+            },
+            Report::Missing { job, songs } => Event::Missing {
+                job: *job,
+                songs: *songs,
             },
             Report::ScanDone { job } => Event::ScanDone { job: *job },
             Report::Keep { ticket } => Event::Keep { ticket: *ticket },
@@ -94,6 +102,18 @@ impl<D: Disk, C: Ledger, P: Ledger, S: Ledger, R: Wait + Clock, K: Wake> Worker<
     // A short time, in which memory may come back.
     pub(crate) fn pause(&self) {
         self.rest(PAUSE);
+    }
+
+    // The same, or a longer time while the journal's disk is full. With the wide profile the loop is woken, which makes room.
+    fn pause_for_room(&self) {
+        if self.stage.makes_room(self.rt) {
+            K::wake(self.wake);
+        }
+        self.rest(if self.stage.lacks_room(self.rt) {
+            FULL_PAUSE
+        } else {
+            PAUSE
+        });
     }
 
     // Reports once; where memory is wanting, also for the event itself, nothing was done.
@@ -128,7 +148,7 @@ impl<D: Disk, C: Ledger, P: Ledger, S: Ledger, R: Wait + Clock, K: Wake> Worker<
                     return other;
                 }
             }
-            self.pause();
+            self.pause_for_room();
         }
         unreachable!()
     }

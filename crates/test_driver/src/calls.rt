@@ -48,8 +48,28 @@ pub fn served<C: Ledger, P: Ledger, S: Ledger, R: Wait>(
     pass: Pass<C, P, S>,
     event: Event,
 ) -> Answer<Served<TestDisk>, C, P, S> {
+    let (made, pass) = made_room(rt, alloc, stage, pass);
+    if let Err(error) = made {
+        return (Err(error), pass);
+    }
     match stage.serve(rt, alloc, pass, event) {
         Ok((served, pass)) => (Ok(served), pass),
+        Err((error, pass)) => (Err(error), pass),
+    }
+}
+
+/// Makes room on the disk for what comes next, as a bounded turn does; a checkpoint that is due is made here alone.
+pub fn made_room<C: Ledger, P: Ledger, S: Ledger, R: Wait>(
+    rt: &R,
+    alloc: Global,
+    stage: &Stage<C, P, S>,
+    pass: Pass<C, P, S>,
+) -> Answer<(), C, P, S> {
+    match stage.tell_room(rt, alloc, pass, false) {
+        Ok((told, pass)) => {
+            drop(told);
+            (Ok(()), pass)
+        }
         Err((error, pass)) => (Err(error), pass),
     }
 }
@@ -61,6 +81,10 @@ pub fn reported<C: Ledger, P: Ledger, S: Ledger, R: Wait>(
     pass: Pass<C, P, S>,
     event: Event,
 ) -> Answer<(), C, P, S> {
+    let (made, pass) = made_room(rt, alloc, stage, pass);
+    if made.is_err() {
+        return (made, pass);
+    }
     match stage.report(rt, alloc, pass, event) {
         Ok(pass) => (Ok(()), pass),
         Err((error, pass)) => (Err(error), pass),

@@ -1,6 +1,6 @@
 //! A stage, the clients of its loop, and what is done with them.
 use crate::beside::Beside;
-use crate::calls::{Settled, Stage, reported, settled};
+use crate::calls::{Settled, Stage, made_room, reported, settled};
 use crate::passes::Passes;
 use crate::shown::{tell_scanned, tell_stage_error};
 use crate::sound::Sound;
@@ -13,7 +13,7 @@ use driver_base::words::{first_word, number};
 use driver_base::{Fault, Printer, TestDisk};
 use live_stage::{Receipt, Turn};
 use mio_clients::{ClientsError, Part};
-use stage_workers::{Kind, Outbox};
+use stage_workers::{Kind, Outbox, StageError};
 use std::alloc::Global;
 use std::slice;
 use std::sync::Wait;
@@ -79,6 +79,31 @@ fn tell_parts(printer: &mut Printer, parts: &[Part<TestDisk>], receipt: &mut Opt
     }
 }
 
+fn is_refused(turned: &Turned) -> bool {
+    match turned {
+        Ok(parts) => has_refusal(parts),
+        Err(_) => true,
+    }
+}
+
+fn has_refusal(parts: &[Part<TestDisk>]) -> bool {
+    for part in parts {
+        if let Part::Refused(_) = part {
+            return true;
+        }
+    }
+    false
+}
+
+// Prints why no room was made, where the turn behind it refuses nothing.
+fn tell_made(printer: &mut Printer, made: Result<(), StageError>, turned: &Turned) {
+    if let Err(error) = made {
+        if !is_refused(turned) {
+            printer.count("refused", u64::from(error.number()));
+        }
+    }
+}
+
 fn tell_turned(printer: &mut Printer, turned: Turned, receipt: &mut Option<Receipt>) {
     match turned {
         Ok(parts) => tell_parts(printer, &parts, receipt),
@@ -120,12 +145,22 @@ impl<C: Ledger, P: Ledger, S: Ledger> Looped<C, P, S> {
         let pass = self.passes.take(CLIENTS)?;
         beside.wires.begin_turn();
         let alloc = beside.printer.alloc;
-        let (turned, pass) = if is_bounded {
-            turns::bounded_turn(rt, alloc, &mut self.clients, &self.stage, pass)
+        let (made, turned, pass) = if is_bounded {
+            let (turned, pass) = turns::bounded_turn(
+                rt,
+                alloc,
+                &mut self.clients,
+                &self.stage,
+                pass,
+            );
+            (Ok(()), turned, pass)
         } else {
-            turns::turn(rt, alloc, &mut self.clients, &self.stage, pass)
+            let (made, pass) = made_room(rt, alloc, &self.stage, pass);
+            let (turned, pass) = turns::turn(rt, alloc, &mut self.clients, &self.stage, pass);
+            (made, turned, pass)
         };
         self.passes.put(CLIENTS, pass);
+        tell_made(&mut beside.printer, made, &turned);
         tell_turned(&mut beside.printer, turned, &mut self.receipt);
         beside.wires.tell(&mut beside.printer);
         Ok(())
@@ -179,6 +214,12 @@ fn play<R: Wait + Clock, C: Ledger, P: Ledger, S: Ledger>(
         return Ok(());
     };
     let pass = looped.passes.take(PLAYER)?;
+    let (made, pass) = made_room(rt, printer.alloc, &looped.stage, pass);
+    if let Err(error) = made {
+        looped.passes.put(PLAYER, pass);
+        tell_stage_error(printer, error);
+        return Ok(());
+    }
     let given = (pass, &order);
     let (played, pass) = turns::play(rt, host, &looped.stage, &mut looped.sound, given);
     looped.passes.put(PLAYER, pass);
@@ -281,7 +322,8 @@ pub fn take_line<R: Wait + Clock, C: Ledger, P: Ledger, S: Ledger>(
         "play_once" => return play(rt, host, looped, &mut beside.printer),
         "scan_once" => return scan(rt, host, looped, &mut beside.printer),
         "file" | "remove" | "folder" => return take_song_line(host, word, rest),
-        "batch" | "scanned" => SCAN,
+        "room" => CLIENTS,
+        "batch" | "missing" | "scanned" => SCAN,
         "fed" | "ended" | "broken" | "keep" | "resume" => PLAYER,
         _ => return call(&mut looped.clients, beside, word, rest),
     };

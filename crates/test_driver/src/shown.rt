@@ -26,6 +26,7 @@ pub fn tell_stage_error(printer: &mut Printer, error: StageError) {
 pub fn tell_scanned(printer: &mut Printer, scanned: Result<Scanned, StageError>) {
     match scanned {
         Ok(scanned) if scanned.is_left_off => printer.line("left off"),
+        Ok(scanned) if scanned.withheld.is_some() => printer.line("withheld"),
         Ok(_) => {}
         Err(error) => tell_stage_error(printer, error),
     }

@@ -62,7 +62,13 @@ fn reads(rt: &impl Abort, alloc: Global, failure: &PlayFailure, want: &str) -> R
 fn texts_of_failures(rt: HostRuntime) -> Result<(), Fail> {
     let failure = PlayFailure::CannotPlay(uri(rt.alloc(), "d/a.wav")?);
     reads(&rt, rt.alloc(), &failure, "cannot play d/a.wav")?;
-    reads(&rt, rt.alloc(), &PlayFailure::OutputFailed, "output failed")
+    reads(&rt, rt.alloc(), &PlayFailure::OutputFailed, "output failed")?;
+    let failure = PlayFailure::Withheld {
+        missing: 89,
+        songs: 120,
+    };
+    let want = "update would drop 89 of 120 songs: is the music there?";
+    reads(&rt, rt.alloc(), &failure, want)
 }
 
 /// A queue with the ids 1, 2 and so on; every third song is b.wav, the others are a.wav.

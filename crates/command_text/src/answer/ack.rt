@@ -108,6 +108,7 @@ fn append_command_text(
         CommandRefusal::PlaylistsFull => append(out, &[b"Too many playlists or entries"]),
         CommandRefusal::StickersFull => append(out, &[b"Too many stickers"]),
         CommandRefusal::RequestTooLarge => append(out, &[b"request too large"]),
+        CommandRefusal::DiskFull => append(out, &[b"disk full"]),
         CommandRefusal::OutOfMemory => append(out, &[b"out of memory"]),
         CommandRefusal::Setup(refusal) => append(out, &[refusal.text().as_bytes()]),
         CommandRefusal::Tags(refusal) => append(out, &[refusal.text().as_bytes()]),

@@ -1,14 +1,16 @@
 //! The lines of `status` (MPD protocol reference 0.23, "Querying MPD's status").
-ghost use Rattle.std.specs.Prelude.{◌≡◌, option_copied};
+ghost use Rattle.std.specs.Prelude.{◌≡◌, Some, option_copied};
 ghost use Rattle.command_text.specs.Answer.{Adds};
 ghost use Rattle.command_text.specs.AnswerTimes.{milliseconds_at};
 ghost use Rattle.command_text.specs.AnswerStatus.{switch_text, single_text, state_text, setting_lines, current_lines, next_lines};
 ghost use Rattle.command_text.specs.AnswerStatus.{time_lines, playing_lines, played_lines, job_line, job_lines, error_lines};
 ghost use Rattle.command_text.specs.AnswerStatus.{status_lines, volume_line};
+ghost use Rattle.player_core.specs.declared.failure.PlayFailure.TheVariants.{Withheld};
 
 use crate::answer::pairs::{append, write_number, write_pair, write_position_and_id};
 use crate::answer::songs::write_format;
 use crate::answer::times::{milliseconds_at, write_elapsed_of_total, write_exact_seconds};
+use itoa::Buffer;
 use no_memory::NoMemory;
 use player_core::{Options, PlayFailure, PlayState, Single, Volume};
 use song_db::SongRow;
@@ -171,8 +173,24 @@ fn write_error(out: &mut Vec<u8>, error: Option<&PlayFailure>) -> Result<(), NoM
             &[b"error: cannot play ", uri.as_str().as_bytes(), b"\n"],
         ),
         Some(PlayFailure::OutputFailed) => write_pair(out, "error", b"output failed"),
+        Some(PlayFailure::Withheld { missing, songs }) => write_withheld(out, *missing, *songs),
         None => Ok(()),
     }
+}
+
+fn write_withheld(out: &mut Vec<u8>, missing: usize, songs: usize) -> Result<(), NoMemory>
+    ensures { Adds (error_lines (Some (Withheld missing songs))) result out.old out.new }
+{
+    append(
+        out,
+        &[
+            b"error: update would drop ",
+            Buffer::new().format(missing).as_bytes(),
+            b" of ",
+            Buffer::new().format(songs).as_bytes(),
+            b" songs: is the music there?\n",
+        ],
+    )
 }
 
 /// Adds the lines of `status`: `volume` to `state`; `song` and `songid`, `nextsong` and `nextsongid` where there are such

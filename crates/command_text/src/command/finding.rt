@@ -8,14 +8,14 @@ ghost use Rattle.command_text.specs.Finding.{has_search_count};
 ghost use Rattle.filter_expr.specs.Parts.{opening, begins_so};
 ghost use Rattle.profile.specs.declared.profile.Profile.TheVariants.{Named, Wide};
 ghost use Rattle.command_text.specs.Finding.{filter_length, value_behind, second_place, sort_part, window_part, position_part};
-ghost use Rattle.command_text.specs.Finding.{nothing_left, has_arranged_count, arranged_search, in_queue_of};
+ghost use Rattle.command_text.specs.Finding.{place_part, nothing_left, has_arranged_count, arranged_parts, in_queue_of};
 ghost use Rattle.command_text.specs.Finding.{search_parts, find_of, find_add_of, filter_alone, add_to_playlist_of, list_of, finding_of};
 ghost use Rattle.command_text.specs.Finding.{files_of, is_artist_alone, is_file, listed_words, values_of};
 ghost use Rattle.command_text.specs.Finding.{count_of, filter_if_any, group_counts_of, grouped_tag, groups_of, listing_of};
 ghost use Rattle.command_text.specs.Groups.{takes_groups};
 ghost use Rattle.command_text.specs.Stops.{Reads, ReadsAs};
 
-use crate::argument::{argument, target, window};
+use crate::argument::{argument, number, target, window};
 use crate::command::groups::{MOST_ENDS, end_tag, last_tag, part_ends, takes_groups};
 use crate::named::{filter_argument, playlist_name, sort_order, tag_argument};
 use crate::range::Window;
@@ -46,8 +46,8 @@ pub struct Search {
 pub enum FindingCommand<'w> {
     /// Adds what is found to the queue.
     Add(Search, Option<Target>),
-    /// Adds what is found, the case of letters aside, to a playlist.
-    AddToPlaylist(Text<'w>, Search),
+    /// Adds what is found, the case of letters aside, to a playlist, at a place, or at the end.
+    AddToPlaylist(Text<'w>, Search, Option<u32>),
     Count(Filter),
     /// How many songs have each value of a tag, of all songs or of those that match.
     CountGroups(Tag, Option<Filter>),
@@ -351,6 +351,24 @@ fn position_part<'w, 'a>(
     }
 }
 
+/// A place of a playlist, if it is there, and the words behind it.
+#[tactic(auto, unfolding(crate::specs::Finding::place_part))]
+fn place_part<'w, 'a>(
+    total: usize,
+    words: &'w [LineWord<'a>],
+) -> Result<(Option<u32>, &'w [LineWord<'a>]), CommandRefusal>
+    requires { total + 2 < 2 ^ 64 }
+    ensures { result_map_both (λ x. (x.0, x.1.now)) (λ refusal. refusal) result ≡ place_part total words.now }
+{
+    match value_behind(b"position", words) {
+        None => Ok((None, words)),
+        Some(word) => {
+            let part = argument(second_place(total, words), number(word))?;
+            Ok((Some(part), &words[2..]))
+        }
+    }
+}
+
 /// The value, where no word is left.
 fn nothing_left<T: Drop>(
     total: usize,
@@ -438,43 +456,42 @@ fn filter_alone(alloc: Global, profile: Profile, words: &[LineWord<'_>]) -> Resu
     filter_argument(alloc, profile, words)
 }
 
-/// Whether these may be a filter by their count, behind which in the wide profile an order and a window may stand.
-fn has_arranged_count(profile: Profile, words: &[LineWord<'_>]) -> bool
-    ensures { result ≡ has_arranged_count profile words.now }
+/// Whether these may be a filter by their count, behind which in the wide profile such parts may stand.
+fn has_arranged_count(profile: Profile, adds: bool, words: &[LineWord<'_>]) -> bool
+    ensures { result ≡ has_arranged_count profile adds words.now }
 {
     match profile {
         Profile::Named => has_filter_count(profile, words),
-        Profile::Wide => has_search_count(profile, false, words),
+        Profile::Wide => has_search_count(profile, adds, words),
     }
 }
 
-/// Such a filter with what stands behind it, of so many arguments in all.
-#[tactic(auto, unfolding(crate::specs::Finding::arranged_search))]
-fn arranged_search(
+/// Such a filter with its order and window, and the words behind them, of so many arguments in all.
+#[tactic(auto, unfolding(crate::specs::Finding::arranged_parts))]
+fn arranged_parts<'w, 'a>(
     alloc: Global,
     profile: Profile,
+    adds: bool,
     case: Case,
     total: usize,
-    words: &[LineWord<'_>],
-) -> Result<Search, Stop>
-    requires count { IsTrue (has_arranged_count profile words.now) }
+    words: &'w [LineWord<'a>],
+) -> Result<(Search, &'w [LineWord<'a>]), Stop>
+    requires count { IsTrue (has_arranged_count profile adds words.now) }
     requires few { total + 2 < 2 ^ 64 }
-    ensures { Reads result (arranged_search profile case total words.now) }
+    ensures { ReadsAs (λ x. (x.0, x.1.now)) result (arranged_parts profile adds case total words.now) }
 {
     match profile {
         Profile::Named => {
             let filter = filter_argument(alloc, profile, words)?;
-            Ok(Search {
+            let search = Search {
                 case,
                 filter,
                 sort: None,
                 window: None,
-            })
+            };
+            Ok((search, &words[words.len()..]))
         }
-        Profile::Wide => {
-            let (search, behind) = search_parts(alloc, profile, false, case, total, words)?;
-            Ok(nothing_left(total, behind, search)?)
-        }
+        Profile::Wide => search_parts(alloc, profile, adds, case, total, words),
     }
 }
 
@@ -489,12 +506,15 @@ fn add_to_playlist<'w>(
     match words {
         [] => Err(Stop::Refused(CommandRefusal::WrongCount)),
         [name, rest @ ..] => {
-            if !has_arranged_count(profile, rest) {
+            if !has_arranged_count(profile, true, rest) {
                 return Err(Stop::Refused(CommandRefusal::WrongCount));
             }
+            let total = words.len();
             let name = playlist_name(name.bytes())?;
-            let search = arranged_search(alloc, profile, Case::Folded, words.len(), rest)?;
-            Ok(FindingCommand::AddToPlaylist(name, search))
+            let (search, behind) = arranged_parts(alloc, profile, true, Case::Folded, total, rest)?;
+            let (to, behind) = place_part(total, behind)?;
+            let command = FindingCommand::AddToPlaylist(name, search, to);
+            Ok(nothing_left(total, behind, command)?)
         }
     }
 }
@@ -508,11 +528,12 @@ fn in_queue<'w>(
 ) -> Result<FindingCommand<'w>, Stop>
     ensures { Reads result (in_queue_of profile case words.now) }
 {
-    if !has_arranged_count(profile, words) {
+    if !has_arranged_count(profile, false, words) {
         return Err(Stop::Refused(CommandRefusal::WrongCount));
     }
-    let search = arranged_search(alloc, profile, case, words.len(), words)?;
-    Ok(FindingCommand::InQueue(search))
+    let (search, behind) = arranged_parts(alloc, profile, false, case, words.len(), words)?;
+    let command = FindingCommand::InQueue(search);
+    Ok(nothing_left(words.len(), behind, command)?)
 }
 
 #[tactic(auto, unfolding(crate::specs::Finding::list_of))]

@@ -90,7 +90,7 @@ fn happen(
     match word {
         "gone" => leave(core, clients, printed, number(rest)?),
         "batch" => return batch(core, clients, printed, collected, number(rest)?),
-        "line" | "list" | "fed" | "ended" | "broken" | "scanned" => {
+        "line" | "list" | "fed" | "ended" | "broken" | "missing" | "scanned" => {
             let event = event_of(printed.printer.alloc, collected, line)?;
             handle(core, clients, printed, event);
         }

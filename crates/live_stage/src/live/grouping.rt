@@ -161,6 +161,7 @@ impl<D: Disk> Live<D> {
             snapshot_len: self.journal.snapshot_len(),
             records: self.journal.records_since_checkpoint(),
             bytes: self.journal.bytes_since_checkpoint(),
+            is_put_off: self.put_off,
         }
     }
 }

@@ -1,5 +1,5 @@
 // What the player's and the scan's thread look for.
-ghost use Rattle.std.specs.Prelude.{◌≡◌, ◌↔◌, false, IfOk, IsTrue, option_map};
+ghost use Rattle.std.specs.Prelude.{◌≡◌, ◌↔◌, false, IfOk, IsTrue, option_copied, option_map};
 ghost use Rattle.player_core.specs.declared.playing.PlayState.{PlayState};
 ghost use Rattle.player_core.specs.declared.order.Order.{Order as PlayOrder};
 ghost use Rattle.daemon_core.specs.Orders.{play_order, scan_order};
@@ -9,6 +9,7 @@ ghost use Rattle.live_stage.specs.Turns.{RefusesToTell};
 use super::Live;
 use crate::LiveError;
 use disk_model::Disk;
+use machine_core::WithheldJob;
 use player_core::Order;
 use profile::Profile;
 use song_db::{ScanOrder, SongDb};
@@ -60,6 +61,14 @@ impl<D: Disk> Live<D> {
         ensures { result.now ≡ self.now.state.machine.saved.songs }
     {
         self.core.as_saved().songs()
+    }
+
+    /// The last job that dropped nothing because it missed too many songs, until another goes on. It takes no memory and refuses nothing;
+    /// of a broken stage it tells what was before the fault.
+    pub fn withheld(&self) -> Option<&WithheldJob>
+        ensures { option_copied result ≡ self.now.state.machine.withheld }
+    {
+        self.core.withheld()
     }
 
     /// The number of the job that runs, if one does: that of `scan_order`. It takes no memory and refuses nothing; of a broken

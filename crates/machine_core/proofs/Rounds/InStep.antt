@@ -10,11 +10,11 @@ use Rattle.play_queue.specs.Entries.{deleted, kept as kept_entries}
 use Rattle.play_queue.specs.declared.entry.Entry.{Entry}
 use Rattle.player_core.specs.Choice.{placed}
 use Rattle.player_core.specs.Commands.{gone_back, named, paused, played_from}
-use Rattle.player_core.specs.Ending.{over}
+use Rattle.player_core.specs.Ending.{ended, over}
 use Rattle.player_core.specs.Order.{current_entry}
 use Rattle.player_core.specs.Place.{PlaceState, id_leaves, place_left}
 use Rattle.player_core.specs.Player.{PlayerState, Step, left_by, stopped_without_song}
-use Rattle.player_core.specs.Reports.{counts, only, turned as turned_random}
+use Rattle.player_core.specs.Reports.{counts, failed, only, turned as turned_random}
 use Rattle.player_core.specs.Seek.{sought, sought_current}
 use Rattle.player_core.specs.Staying.{all_staying}
 use Rattle.player_core.specs.declared.block.Block.{Block}
@@ -40,7 +40,7 @@ use Rattle.state_codec.specs.declared.op.setting.Setting.TheVariants as setting
 use Rattle.machine_core.specs.Changed.{same_playing}
 use Rattle.machine_core.specs.Command.{meaning}
 use Rattle.machine_core.specs.Followed.{current_row, cut_to, followed, no_block, step_as_they_leave}
-use Rattle.machine_core.specs.Happening.{nothing_happens}
+use Rattle.machine_core.specs.Happening.{Happening, if_room, nothing_happens}
 use Rattle.machine_core.specs.Keeping.{goes_on, if_kept, keeps, keeps_place, kept, kept_event, place_ops, when_kept, with_ops}
 use Rattle.machine_core.specs.Lists.{replaced}
 use Rattle.machine_core.specs.ListMoves.{of_lists}
@@ -51,14 +51,16 @@ use Rattle.machine_core.specs.Restart.{IsIdle, IsInStep, IsKeptPlace, IsSoundPla
 use Rattle.machine_core.specs.Scanning.{ends_scan, finds, found_a_change, is_running, kept_changes, telling as telling_rows, when_found}
 use Rattle.machine_core.specs.Scanning.{when_scanned}
 use Rattle.machine_core.specs.Sound.{is_in_queue, IsSoundMachine}
-use Rattle.machine_core.specs.State.{MachineState, settings_of, told_time}
+use Rattle.machine_core.specs.State.{keeping, lacks_room, MachineState, settings_of, told_time}
 use Rattle.machine_core.specs.Steps.{consume_ops, current_length, from_named, moves, puts, removal_ops, single_ops, step_in, steps}
 use Rattle.machine_core.specs.declared.clock.ClockTime.{ClockTime}
 use Rattle.machine_core.specs.declared.span.Span.{Span}
 use Rattle.machine_core.specs.declared.steps.PlayerStep.{PlayerStep}
 use Rattle.machine_core.specs.declared.steps.PlayerStep.TheVariants.{Resume, Play as PlayNamed, Seek, Next, Ended, Failed}
 use Rattle.machine_core.proofs.CommandForms.{Holds, OfForms, Turn, command_so, is_commanded, turned}
+use Rattle.machine_core.proofs.FullLaws.{room_happens}
 use Rattle.machine_core.proofs.InTurn.{none_refused}
+use Rattle.machine_core.proofs.KeepingLaws.{wide_room}
 use Rattle.machine_core.proofs.KeptLaws.{kept_is}
 use Rattle.machine_core.proofs.KeptTimes.{times_keep, with_time_op}
 use Rattle.machine_core.proofs.ListMoves.{lists_only, with_lists_of}
@@ -69,9 +71,10 @@ use Rattle.machine_core.proofs.Rounds.Moves.{Leaves as LeavesRound, MadeMoves, M
 use Rattle.machine_core.proofs.Rounds.Moves.{failed_moves, followed_leaves, halted_moves, next_one_moves, over_moves, played_from_moves}
 use Rattle.machine_core.proofs.Rounds.Moves.{resumed_moves, seek_moves, sought_moves, stays_moves, unless_moves}
 use Rattle.machine_core.proofs.Sound.Edits.{id_test, keeps_entries, op_has, ruled_has}
-use Rattle.machine_core.proofs.Sound.Kept.{command_holds, when_broken_holds, when_ended_holds, when_found_holds}
+use Rattle.machine_core.proofs.Sound.Kept.{command_holds, when_found_holds}
 use Rattle.machine_core.proofs.Sound.Leaving.{stays_deleted, stays_kept}
 use Rattle.machine_core.proofs.Sound.Steps.{Within}
+use Rattle.machine_core.proofs.Sound.Within.{ended_holds, failed_holds}
 
 -- each place behind what a command does follows
 abbrev AllFollow : MachineState → MachineState → Type 0
@@ -409,31 +412,37 @@ forms_follow = record {
 timed_in_step : (z : Meaning) → IsInStep z.after → let x = with_time_op z in IsInStep x.after
 timed_in_step z step place is = let before = step place is in record { sound = before.sound; here = before.here }
 
-pub command_in_step : (mask : TagMask) (command : Command) (m : MachineState) (x : Meaning) → m.saved.profile ≡ Wide → IsSoundMachine m
-    → IsInStep m → kept m (meaning mask command m) ≡ Ok x → IsInStep x.after
-command_in_step mask command m x wide holds step is =
+pub command_in_step : (mask : TagMask) (command : Command) (m : MachineState) (x : Meaning) → keeping m ≡ Wide
+    → m.saved.profile ≡ Wide → IsSoundMachine m → IsInStep m → kept m (meaning mask command m) ≡ Ok x → IsInStep x.after
+command_in_step mask command m x under wide holds step is =
     let y = kept_is m (meaning mask command m) x is in
-    let placed = stays_in_step m y.0.after wide (command_holds mask command m y.0 holds y.1)
+    let placed = stays_in_step m y.0.after under (command_holds mask command m y.0 holds y.1)
     (subst (λ meant. Holds InStepWith m meant) y.1 (command_so InStepWith forms_follow mask command m) holds step) in
     subst (λ (z : Meaning). IsInStep z.after) y.2
     (times_keep (λ (z : Meaning). IsInStep z.after) m (keeps m y.0) placed (λ wide lists changes. timed_in_step (keeps m y.0) placed))
 
 -- ---- events
 
-pub ended_in_step : (ticket : ℕ) (m : MachineState) → m.saved.profile ≡ Wide → IsSoundMachine m → IsInStep m
+pub ended_in_step : (ticket : ℕ) (m : MachineState) → keeping m ≡ Wide → m.saved.profile ≡ Wide → IsSoundMachine m → IsInStep m
     → let h = kept_event m (when_ended ticket m) in IsInStep h.after
-ended_in_step ticket m wide holds step =
-    let h = when_ended ticket m in
-    stays_in_step m h.after wide (when_ended_holds ticket m holds)
-    (steps_follow _ m (ended_moves m.player.state m.saved.queue.entries (settings_of m.saved) m.player ticket refl) holds step)
+ended_in_step ticket m keeps wide holds step =
+    let made = ended m.saved.queue.entries (settings_of m.saved) m.player ticket in
+    let x = steps made m in
+    subst (λ (h : Happening). IsInStep h.after)
+    (sym (room_happens m (λ settings. ended m.saved.queue.entries settings m.player ticket) (wide_room m keeps)))
+    (stays_in_step m x.after keeps (ended_holds m ticket holds)
+    (steps_follow made m (ended_moves m.player.state m.saved.queue.entries (settings_of m.saved) m.player ticket refl) holds step))
 
-pub broken_in_step : (ticket : ℕ) (cause : BrokenCause) (m : MachineState) → m.saved.profile ≡ Wide → IsSoundMachine m → IsInStep m
-    → let h = kept_event m (when_broken ticket cause m) in IsInStep h.after
-broken_in_step ticket cause m wide holds step =
-    let h = when_broken ticket cause m in
-    stays_in_step m h.after wide (when_broken_holds ticket cause m holds)
-    (steps_follow _ m (failed_moves m.saved.queue.entries (settings_of m.saved) m.player ticket cause
-    (current_entry m.saved.queue.entries m.player.current)) holds step)
+pub broken_in_step : (ticket : ℕ) (cause : BrokenCause) (m : MachineState) → keeping m ≡ Wide
+    → m.saved.profile ≡ Wide → IsSoundMachine m → IsInStep m → let h = kept_event m (when_broken ticket cause m) in IsInStep h.after
+broken_in_step ticket cause m keeps wide holds step =
+    let made = failed m.saved.queue.entries (settings_of m.saved) m.player ticket cause in
+    let x = steps made m in
+    subst (λ (h : Happening). IsInStep h.after)
+    (sym (room_happens m (λ settings. failed m.saved.queue.entries settings m.player ticket cause) (wide_room m keeps)))
+    (stays_in_step m x.after keeps (failed_holds m ticket cause holds)
+    (steps_follow made m (failed_moves m.saved.queue.entries (settings_of m.saved) m.player ticket cause
+    (current_entry m.saved.queue.entries m.player.current)) holds step))
 
 cut_leaves : (row : Option Row) (entries : List Entry) (block : Block) (dropped : List (List ℕ)) (p q : PlayerState)
     → LeavesRound entries block dropped p q → LeavesRound entries block dropped p (cut_to row q)
@@ -483,16 +492,22 @@ found_follows : (job : ℕ) (changes : List RowChange) (m : MachineState) → Is
     → let h = when_found job changes m in AllFollow m h.after
 found_follows job changes m holds step = of (is_running job m)
   where
-    of : (b : Bool) → let h = cond b (finds (telling_rows m.saved.songs (kept_changes m.saved.profile changes)) m) (nothing_happens m) in
-        AllFollow m h.after
-    of true = batch_follows (telling_rows m.saved.songs (kept_changes m.saved.profile changes)) m holds step
+    rows : Happening
+    rows = finds (telling_rows m.saved.songs (kept_changes m.saved.profile changes)) m
+
+    in_room : (b : Bool) → let h = cond b (nothing_happens m) rows in AllFollow m h.after
+    in_room true = stays_follow m m holds step refl refl (λ id h. h)
+    in_room false = batch_follows (telling_rows m.saved.songs (kept_changes m.saved.profile changes)) m holds step
+
+    of : (b : Bool) → let h = cond b (if_room m rows) (nothing_happens m) in AllFollow m h.after
+    of true = in_room (lacks_room m)
     of false = stays_follow m m holds step refl refl (λ id h. h)
 
-pub found_in_step : (job : ℕ) (changes : List RowChange) (m : MachineState) → m.saved.profile ≡ Wide → IsSoundMachine m → IsInStep m
-    → let h = kept_event m (when_found job changes m) in IsInStep h.after
-found_in_step job changes m wide holds step =
+pub found_in_step : (job : ℕ) (changes : List RowChange) (m : MachineState) → keeping m ≡ Wide
+    → m.saved.profile ≡ Wide → IsSoundMachine m → IsInStep m → let h = kept_event m (when_found job changes m) in IsInStep h.after
+found_in_step job changes m keeps wide holds step =
     let h = when_found job changes m in
-    stays_in_step m h.after wide (when_found_holds job changes m holds) (found_follows job changes m holds step)
+    stays_in_step m h.after keeps (when_found_holds job changes m holds) (found_follows job changes m holds step)
 
 -- frames count: nothing else of the player changes
 frame_moves : (m : MachineState) (q : PlayerState) (frame : ℕ) → q ≡ record m.player { frame = frame } → IsInStep m
@@ -522,7 +537,7 @@ fed_in_step ticket frames m step = by (current_row m.saved m.player)
     by None = step
     by (Some row) = counted row (counts m.player.state m.player.ticket ticket)
 
-same_player : (m n : MachineState) → n.saved ≡ m.saved → n.player ≡ m.player → IsInStep m → IsInStep n
+pub same_player : (m n : MachineState) → n.saved ≡ m.saved → n.player ≡ m.player → IsInStep m → IsInStep n
 same_player m n saved player step place is =
     let before = step place (ap (λ (s : SavedState). s.place) (sym saved) ∙ is) in
     record {
@@ -541,9 +556,10 @@ pub clocked_in_step : (time : ClockTime) (m : MachineState) → IsInStep m → I
 clocked_in_step time m step = same_player m (told_time time m) refl refl step
 
 -- where the player is now is kept
-at_in_step : (m : MachineState) → m.saved.profile ≡ Wide → IsSoundMachine m → IsInStep m → let h = keeps_place m in IsInStep h.after
-at_in_step m wide holds step =
-    subst (λ (p : Profile). IsInStep (with_ops (if_kept p (place_ops m.player.current m.player m.saved m.saved.place)) m)) (sym wide)
+at_in_step : (m : MachineState) → keeping m ≡ Wide → m.saved.profile ≡ Wide → IsSoundMachine m → IsInStep m
+    → let h = keeps_place m in IsInStep h.after
+at_in_step m keeps wide holds step =
+    subst (λ (p : Profile). IsInStep (with_ops (if_kept p (place_ops m.player.current m.player m.saved m.saved.place)) m)) (sym keeps)
     (of m.saved.place refl)
   where
     round : (place : PlaceState) → (IsIdle m.player) ⊎ (IsThere m.player place)
@@ -560,10 +576,10 @@ at_in_step m wide holds step =
         (sym (place_comes m.player.current m place is (short_place m place holds before) (round place before.here) before.sound.once
         holds.sound.once (few_played m holds))) (at_the_player m holds)
 
-pub kept_in_step : (ticket : ℕ) (m : MachineState) → m.saved.profile ≡ Wide → IsSoundMachine m → IsInStep m
+pub kept_in_step : (ticket : ℕ) (m : MachineState) → keeping m ≡ Wide → m.saved.profile ≡ Wide → IsSoundMachine m → IsInStep m
     → let h = when_kept ticket m in IsInStep h.after
-kept_in_step ticket m wide holds step = of (counts m.player.state m.player.ticket ticket)
+kept_in_step ticket m keeps wide holds step = of (counts m.player.state m.player.ticket ticket)
   where
     of : (b : Bool) → let h = cond b (keeps_place m) (nothing_happens m) in IsInStep h.after
-    of true = at_in_step m wide holds step
+    of true = at_in_step m keeps wide holds step
     of false = step

@@ -34,7 +34,7 @@ use Rattle.machine_core.specs.Changed.{same_playing, same_state}
 use Rattle.machine_core.specs.Keeping.{goes_on, if_kept, keep_ops, place_ops, put_op, round_ops, telling_ops, with_ops}
 use Rattle.machine_core.specs.Restart.{IsIdle, IsInStep, IsKeptPlace, IsSoundPlace, IsThere}
 use Rattle.machine_core.specs.Sound.{is_in_queue, AreOwn, IsIn, IsSoundMachine, IsSoundPlayer}
-use Rattle.machine_core.specs.State.{MachineState}
+use Rattle.machine_core.specs.State.{keeping, MachineState}
 use Rattle.machine_core.proofs.KeptLaws.{placed as with_place, ran_so, run, telling, told_so}
 use Rattle.machine_core.proofs.Rounds.Following.{RoundStep, round_follows}
 use Rattle.machine_core.proofs.Rounds.Left.{left_is, own_ids}
@@ -135,7 +135,7 @@ place_comes before n place is short step once own few =
     ∙ ran_so (telling steps place) place n.saved
     ∙ ap (λ (p : PlaceState). with_place p n.saved) (run_telling steps place short ∙ steps_come before n.player place step once own few)
 
-keep_comes : (m n : MachineState) (place : PlaceState) → m.saved.profile ≡ Wide → goes_on m n ≡ false → n.saved.place ≡ Some place
+keep_comes : (m n : MachineState) (place : PlaceState) → keeping m ≡ Wide → goes_on m n ≡ false → n.saved.place ≡ Some place
     → length place.played ≤ longest_round → RoundStep m.player.current place.played n.player.played → AreOwn place.played
     → AreOwn n.player.played → length n.player.played ≤ longest_round
     → after_all (keep_ops m n) n.saved ≡ with_place (place_of n.player) n.saved
@@ -193,18 +193,18 @@ pub few_played : (n : MachineState) → IsSoundMachine n → length n.player.pla
 few_played n holds =
     omega (arith, as_few n.saved.queue.entries n.player.played holds.sound.once holds.sound.played, holds.queue.few)
 
-pub stays_in_step : (m n : MachineState) → m.saved.profile ≡ Wide → IsSoundMachine n
+pub stays_in_step : (m n : MachineState) → keeping m ≡ Wide → IsSoundMachine n
     → ((place : PlaceState) → n.saved.place ≡ Some place → Follows m n place) → IsInStep (with_ops (keep_ops m n) n)
 stays_in_step m n wide holds follows = of (goes_on m n) refl n.saved.place refl
   where
     nothing : goes_on m n ≡ true → keep_ops m n ≡ []
     nothing goes =
-        (λ i. if_kept m.saved.profile (cond (goes i) [] (place_ops m.player.current n.player n.saved n.saved.place)))
+        (λ i. if_kept (keeping m) (cond (goes i) [] (place_ops m.player.current n.player n.saved n.saved.place)))
         ∙ ap (λ p. if_kept p []) wide
 
     unkept : goes_on m n ≡ false → n.saved.place ≡ None → keep_ops m n ≡ []
     unkept other none =
-        (λ i. if_kept m.saved.profile (cond (other i) [] (place_ops m.player.current n.player n.saved (none i))))
+        (λ i. if_kept (keeping m) (cond (other i) [] (place_ops m.player.current n.player n.saved (none i))))
         ∙ ap (λ p. if_kept p []) wide
 
     of : (b : Bool) → goes_on m n ≡ b → (kept : Option PlaceState) → n.saved.place ≡ kept → IsInStep (with_ops (keep_ops m n) n)

@@ -17,7 +17,7 @@ use Rattle.machine_core.specs.Happening.{HasHappened}
 use Rattle.machine_core.specs.Keeping.{if_kept, keep_ops, keep_ops_since, kept_event, with_ops}
 use Rattle.machine_core.specs.Scanning.{changes_rows}
 use Rattle.machine_core.specs.Size.{max_request_bytes}
-use Rattle.machine_core.specs.State.{MachineState}
+use Rattle.machine_core.specs.State.{MachineState, keeping}
 use Rattle.machine_core.specs.declared.changed.Before.{Before}
 use Rattle.machine_core.specs.declared.happened.Happened.{Happened}
 use Rattle.machine_core.proofs.KeepingLaws.{keep_no_lists, keep_placed}
@@ -26,7 +26,7 @@ use Rattle.machine_core.proofs.KeptReports.{keep_ops_are, kept_same, told_no_mor
 use Rattle.machine_core.proofs.Scans.Laws.{count_tells, event_told, lists_stay, no_list_op, rebuilt_by, stickers_left}
 
 pub kept_rows_changed : (changes : List RowChange) (m n k : MachineState) (profile : Profile) (before : Before) (happened : Happened)
-    → refusal_of (Batch changes) m.saved ≡ None → n ≡ (changes_rows changes m).after → before ≡ before_of m → profile ≡ m.saved.profile
+    → refusal_of (Batch changes) m.saved ≡ None → n ≡ (changes_rows changes m).after → before ≡ before_of m → profile ≡ keeping m
     → k ≡ with_ops (if_kept profile (keep_ops_since before n)) n
     → happened.ops.items ≡ (changes_rows changes m).ops ++ if_kept profile (keep_ops_since before n)
     → happened.changed ≡ record (changed_since before happened.ops.items k)

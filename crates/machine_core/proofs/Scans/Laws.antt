@@ -1,5 +1,5 @@
 -- What the events of a scan keep: their op rebuilds the saved half, and the changed subsystems are told.
-use Rattle.std.proofs.Common.{◌≡◌, ℕ, ◌≤◌, Bool, true, false, not, ◌&&◌, ◌==◌, List, [], ◌∷◌, ◌++◌, length, filter}
+use Rattle.std.proofs.Common.{◌≡◌, ℕ, ◌≤◌, Bool, true, false, cond, not, ◌&&◌, ◌==◌, List, [], ◌∷◌, ◌++◌, length, filter}
 use Rattle.std.proofs.Common.{Option, Some, None, refl, sym, ap, ◌∙◌, arith, if◌then◌else◌}
 use Rattle.std.proofs.lemmas.Bool.{and_from, eqb-true, eqb-false, le-leb}
 use Rattle.std.specs.List.{list_any}
@@ -28,11 +28,11 @@ use Rattle.machine_core.specs.Before.{before_of, changed_since, is_of_lists, kee
 use Rattle.machine_core.specs.Changed.{same_job, same_lists, same_options, same_playing, same_stickers, changed}
 use Rattle.machine_core.specs.Followed.{Following, current_row, cut_to, follows_batch, no_block, of_step, step_as_they_leave}
 use Rattle.player_core.specs.Player.{PlayerState}
-use Rattle.machine_core.specs.Happening.{HasHappened, nothing_happens}
+use Rattle.machine_core.specs.Happening.{HasHappened, if_room, nothing_happens}
 use Rattle.machine_core.specs.Meaning.{order_ops}
 use Rattle.machine_core.specs.Size.{max_request_bytes}
 use Rattle.machine_core.specs.Scanning.{after_job, is_running, found_a_change, when_scanned, kept_changes, telling, changes_rows, finds, when_found}
-use Rattle.machine_core.specs.State.{MachineState}
+use Rattle.machine_core.specs.State.{MachineState, lacks_room}
 use Rattle.machine_core.specs.declared.changed.Before.{Before}
 use Rattle.machine_core.specs.declared.happened.Happened.{Happened}
 use Rattle.machine_core.proofs.Sizes.{none_short}
@@ -220,9 +220,18 @@ rows_changed changes m n before happened free state is ops told fits = record {
     left = stickers_left changes order m.saved
 
 -- what is found by a job that runs
-pub found_is : (job : ℕ) (changes : List RowChange) (m : MachineState) → is_running job m ≡ true
+pub found_is : (job : ℕ) (changes : List RowChange) (m : MachineState) → is_running job m ≡ true → lacks_room m ≡ false
     → when_found job changes m ≡ finds (telling m.saved.songs (kept_changes m.saved.profile changes)) m
-found_is job changes m running = rw running refl
+found_is job changes m running room =
+    let rows = finds (telling m.saved.songs (kept_changes m.saved.profile changes)) m in
+    ap (λ (b : Bool). cond b (if_room m rows) (nothing_happens m)) running ∙ ap (λ (b : Bool). cond b (nothing_happens m) rows) room
+
+-- and where there is no room nothing happens
+pub none_found : (job : ℕ) (changes : List RowChange) (m : MachineState) → is_running job m ≡ true → lacks_room m ≡ true
+    → when_found job changes m ≡ nothing_happens m
+none_found job changes m running lacks =
+    let rows = finds (telling m.saved.songs (kept_changes m.saved.profile changes)) m in
+    ap (λ (b : Bool). cond b (if_room m rows) (nothing_happens m)) running ∙ ap (λ (b : Bool). cond b (nothing_happens m) rows) lacks
 
 -- changes of which some tell something
 pub some_told : (made : Option (List RowChange)) (changes told : List RowChange) (m : MachineState)

@@ -6,12 +6,12 @@ use Rattle.command_text.specs.AnswerStatus.{job_line}
 use Rattle.song_db.specs.declared.change.RowChange.{RowChange}
 use Rattle.state_codec.specs.Steps.{◌>>=◌}
 use Rattle.machine_core.specs.Database.{asked, begins_job, begun, busy, may_wait, next_job, next_number, waits_for_job}
-use Rattle.machine_core.specs.Happening.{nothing_happens}
+use Rattle.machine_core.specs.Happening.{Happening, if_room, nothing_happens}
 use Rattle.machine_core.specs.Keeping.{kept_event}
 use Rattle.machine_core.specs.Meaning.{Meaning, begins, must, waits}
-use Rattle.machine_core.specs.Scanning.{after_job, changes_rows, ends_scan, finds, is_running, job_behind, jobs_of}
+use Rattle.machine_core.specs.Scanning.{after_job, ends_scan, finds, is_running, job_behind, jobs_of}
 use Rattle.machine_core.specs.Scanning.{kept_changes, telling, when_found, when_scanned}
-use Rattle.machine_core.specs.State.{MachineState}
+use Rattle.machine_core.specs.State.{MachineState, lacks_room}
 use Rattle.machine_core.specs.declared.job.WaitingJob.{WaitingJob}
 
 -- the first of two Bools that both hold
@@ -78,8 +78,13 @@ pub found_leaves : (job : ℕ) (changes : List RowChange) (m : MachineState)
     → jobs_of (kept_event m (when_found job changes m)).after ≡ jobs_of m
 found_leaves job changes m = of (is_running job m)
   where
-    of : (b : Bool)
-        → let h = cond b (finds (telling m.saved.songs (kept_changes m.saved.profile changes)) m) (nothing_happens m) in
-        jobs_of (kept_event m h).after ≡ jobs_of m
-    of true = found_in (telling m.saved.songs (kept_changes m.saved.profile changes)) m
+    rows : Happening
+    rows = finds (telling m.saved.songs (kept_changes m.saved.profile changes)) m
+
+    in_room : (b : Bool) → let h = cond b (nothing_happens m) rows in jobs_of (kept_event m h).after ≡ jobs_of m
+    in_room true = refl
+    in_room false = found_in (telling m.saved.songs (kept_changes m.saved.profile changes)) m
+
+    of : (b : Bool) → let h = cond b (if_room m rows) (nothing_happens m) in jobs_of (kept_event m h).after ≡ jobs_of m
+    of true = in_room (lacks_room m)
     of false = refl

@@ -1,31 +1,34 @@
 -- Each command, and each event of the output and of a scan, keeps the player sound.
-use Rattle.std.proofs.Common.{◌≡◌, ℕ, Bool, true, false, cond, ◌+◌, List, [], ◌∷◌, ◌++◌, Option, Some, None, Ok, subst}
+use Rattle.std.proofs.Common.{◌≡◌, ℕ, Bool, true, false, cond, ◌+◌, List, [], ◌∷◌, ◌++◌, Option, Some, None, Ok, refl, subst}
 use Rattle.std.specs.Prelude.{min}
 use Rattle.command_text.specs.declared.command.Command.{Command}
 use Rattle.command_text.specs.declared.tag_mask.TagMask.{TagMask}
 use Rattle.play_queue.specs.declared.entry.Entry.{Entry as QueueEntry}
 use Rattle.player_core.specs.Commands.{paused}
-use Rattle.player_core.specs.Player.{PlayerState}
-use Rattle.player_core.specs.Reports.{counts}
+use Rattle.player_core.specs.Ending.{ended}
+use Rattle.player_core.specs.Player.{PlayerState, Step}
+use Rattle.player_core.specs.Reports.{counts, failed}
 use Rattle.player_core.specs.declared.failure.BrokenCause.{BrokenCause}
+use Rattle.player_core.specs.declared.settings.PlaySettings.{PlaySettings}
 use Rattle.song_db.specs.Row.{Row}
 use Rattle.song_db.specs.declared.change.RowChange.{RowChange}
 use Rattle.state_codec.specs.Applied.{after_all}
 use Rattle.state_codec.specs.declared.op.Op.TheVariants.{Batch}
 use Rattle.machine_core.specs.Command.{meaning}
 use Rattle.machine_core.specs.Followed.{current_row, followed}
-use Rattle.machine_core.specs.Happening.{nothing_happens}
+use Rattle.machine_core.specs.Happening.{Happening, if_room, nothing_happens}
 use Rattle.machine_core.specs.Meaning.{Meaning, order_ops}
 use Rattle.machine_core.specs.Reports.{fed_in, when_fed, when_ended, when_broken}
 use Rattle.machine_core.specs.Scanning.{is_running, kept_changes, telling, finds, ends_scan, when_found, when_scanned}
 use Rattle.machine_core.specs.Sound.{IsSoundPlayer, IsSound}
-use Rattle.machine_core.specs.State.{MachineState, settings_of}
-use Rattle.machine_core.specs.Steps.{current_length, puts}
+use Rattle.machine_core.specs.State.{MachineState, lacks_room, settings_of}
+use Rattle.machine_core.specs.Steps.{current_length, puts, steps, unsaved, without_consume}
 use Rattle.machine_core.proofs.CommandForms.{KeptBy, OfForms, Turn, command_so, turned}
 use Rattle.machine_core.proofs.ListMoves.{together_sound}
 use Rattle.machine_core.proofs.Shuffling.{shuffled_sound, stopped_sound}
 use Rattle.machine_core.proofs.Sound.Forms.{batch_sound, edited_sound, moves_sound, puts_sound, steps_sound}
-use Rattle.machine_core.proofs.Sound.Playing.{previous_sound, sought_here_sound, halted_sound, ended_sound, failed_sound}
+use Rattle.machine_core.proofs.Sound.Playing.{previous_sound, sought_here_sound, halted_sound, ended_alone, ended_sound, failed_alone}
+use Rattle.machine_core.proofs.Sound.Playing.{failed_sound}
 use Rattle.machine_core.proofs.Sound.Steps.{sound_from, played_of}
 
 pub turn_sound : (turn : Turn) (m : MachineState) → KeptBy IsSound m (puts (turned turn m) m)
@@ -78,13 +81,31 @@ when_fed_sound ticket frames m sound =
     fed_sound (current_row m.saved m.player) ticket frames m.saved.queue.entries m.saved.options.random m.player sound
 
 pub when_ended_sound : (ticket : ℕ) (m : MachineState) → IsSound m → let h = when_ended ticket m in IsSound h.after
-when_ended_sound ticket m sound =
-    steps_sound _ m (ended_sound m.player.state m.saved.queue.entries (settings_of m.saved) m.player ticket sound)
+when_ended_sound ticket m sound = of (lacks_room m)
+  where
+    by : PlaySettings → Step
+    by settings = ended m.saved.queue.entries settings m.player ticket
+
+    of : (b : Bool) → let x = steps (cond b (unsaved (by (without_consume (settings_of m.saved)))) (by (settings_of m.saved))) m in
+        IsSound x.after
+    of true =
+        ended_alone m.player.state m.saved.queue.entries (without_consume (settings_of m.saved)) m.player ticket refl sound
+    of false =
+        steps_sound (by (settings_of m.saved)) m
+        (ended_sound m.player.state m.saved.queue.entries (settings_of m.saved) m.player ticket sound)
 
 pub when_broken_sound : (ticket : ℕ) (cause : BrokenCause) (m : MachineState) → IsSound m → let h = when_broken ticket cause m in
     IsSound h.after
-when_broken_sound ticket cause m sound =
-    steps_sound _ m (failed_sound m.saved.queue.entries (settings_of m.saved) m.player ticket cause sound)
+when_broken_sound ticket cause m sound = of (lacks_room m)
+  where
+    by : PlaySettings → Step
+    by settings = failed m.saved.queue.entries settings m.player ticket cause
+
+    of : (b : Bool) → let x = steps (cond b (unsaved (by (without_consume (settings_of m.saved)))) (by (settings_of m.saved))) m in
+        IsSound x.after
+    of true = failed_alone m.saved.queue.entries (without_consume (settings_of m.saved)) m.player ticket cause refl sound
+    of false =
+        steps_sound (by (settings_of m.saved)) m (failed_sound m.saved.queue.entries (settings_of m.saved) m.player ticket cause sound)
 
 finds_sound : (changes : List RowChange) (m : MachineState) → IsSound m → let h = finds changes m in IsSound h.after
 finds_sound [] m sound = sound
@@ -99,9 +120,15 @@ pub when_found_sound : (job : ℕ) (changes : List RowChange) (m : MachineState)
     IsSound h.after
 when_found_sound job changes m sound = of (is_running job m)
   where
-    of : (b : Bool) → let h = cond b (finds (telling m.saved.songs (kept_changes m.saved.profile changes)) m)
-        (nothing_happens m) in IsSound h.after
-    of true = finds_sound (telling m.saved.songs (kept_changes m.saved.profile changes)) m sound
+    rows : Happening
+    rows = finds (telling m.saved.songs (kept_changes m.saved.profile changes)) m
+
+    in_room : (b : Bool) → let h = cond b (nothing_happens m) rows in IsSound h.after
+    in_room true = sound
+    in_room false = finds_sound (telling m.saved.songs (kept_changes m.saved.profile changes)) m sound
+
+    of : (b : Bool) → let h = cond b (if_room m rows) (nothing_happens m) in IsSound h.after
+    of true = in_room (lacks_room m)
     of false = sound
 
 pub when_scanned_sound : (job : ℕ) (m : MachineState) → IsSound m → let h = when_scanned job m in IsSound h.after

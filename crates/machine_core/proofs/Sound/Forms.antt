@@ -45,7 +45,7 @@ use Rattle.machine_core.proofs.Sound.Steps.{Within, sound_from, sound_within, pl
 
 -- ---- ops
 
-turned_sound : (on : Bool) (entries : List Entry) (random : Bool) (player : PlayerState) → IsSoundPlayer entries random player
+pub turned_sound : (on : Bool) (entries : List Entry) (random : Bool) (player : PlayerState) → IsSoundPlayer entries random player
     → IsSoundPlayer entries on (turned on player)
 turned_sound true entries random player sound = record {
   current = sound.current;

@@ -5,9 +5,12 @@ use Rattle.command_text.specs.declared.command.Command.{Command}
 use Rattle.command_text.specs.declared.tag_mask.TagMask.{TagMask}
 use Rattle.play_queue.specs.Queue.{IsQueue}
 use Rattle.play_queue.specs.declared.entry.Entry.{Entry as QueueEntry}
-use Rattle.player_core.specs.Reports.{counts}
+use Rattle.player_core.specs.Ending.{ended}
+use Rattle.player_core.specs.Player.{Step}
+use Rattle.player_core.specs.Reports.{counts, failed}
 use Rattle.player_core.specs.declared.failure.BrokenCause.{BrokenCause}
 use Rattle.player_core.specs.declared.seek.SongLength.{SongLength}
+use Rattle.player_core.specs.declared.settings.PlaySettings.{PlaySettings}
 use Rattle.song_db.specs.Row.{Row}
 use Rattle.song_db.specs.Scan.{drops_of}
 use Rattle.song_db.specs.declared.change.RowChange.{RowChange}
@@ -15,13 +18,13 @@ use Rattle.state_codec.specs.Applied.{after_all}
 use Rattle.state_codec.specs.declared.op.Op.TheVariants.{Batch}
 use Rattle.machine_core.specs.Command.{meaning}
 use Rattle.machine_core.specs.Followed.{current_row, followed}
-use Rattle.machine_core.specs.Happening.{nothing_happens}
+use Rattle.machine_core.specs.Happening.{Happening, if_room, nothing_happens}
 use Rattle.machine_core.specs.Meaning.{Meaning, order_ops}
 use Rattle.machine_core.specs.Reports.{fed_in, when_broken, when_ended, when_fed}
 use Rattle.machine_core.specs.Scanning.{ends_scan, finds, is_running, kept_changes, telling, when_found, when_scanned}
 use Rattle.machine_core.specs.Sound.{IsSoundMachine, IsWithinSong}
-use Rattle.machine_core.specs.State.{MachineState}
-use Rattle.machine_core.specs.Steps.{moves, puts, step_in}
+use Rattle.machine_core.specs.State.{MachineState, lacks_room, settings_of}
+use Rattle.machine_core.specs.Steps.{moves, puts, step_in, steps as making, unsaved, without_consume}
 use Rattle.machine_core.specs.declared.steps.PlayerStep.{PlayerStep}
 use Rattle.machine_core.specs.declared.steps.PlayerStep.TheVariants as steps
 use Rattle.machine_core.proofs.CommandForms.{KeptBy, KnowsLength, OfForms, Turn, command_so, turned}
@@ -30,7 +33,8 @@ use Rattle.machine_core.proofs.Sound.Commands.{turn_sound, when_fed_sound, when_
 use Rattle.machine_core.proofs.Shuffling.{shuffled_holds, stopped_holds}
 use Rattle.machine_core.proofs.Sound.Frame.{FrameWithin}
 use Rattle.machine_core.proofs.Sound.Queues.{batch_stays}
-use Rattle.machine_core.proofs.Sound.Within.{batch_framed, edited_holds, ended_holds, failed_holds, halted_within, next_holds, play_holds, previous_holds}
+use Rattle.machine_core.proofs.Sound.Within.{batch_framed, edited_holds, ended_alone_holds, ended_holds, failed_alone_holds}
+use Rattle.machine_core.proofs.Sound.Within.{failed_holds, halted_within, next_holds, play_holds, previous_holds}
 use Rattle.machine_core.proofs.Sound.Within.{resume_holds, seek_current_holds, seek_holds}
 
 turn_holds : (turn : Turn) (m : MachineState) → KeptBy IsSoundMachine m (puts (turned turn m) m)
@@ -97,11 +101,27 @@ when_fed_holds ticket frames m holds = record {
 }
 
 pub when_ended_holds : (ticket : ℕ) (m : MachineState) → IsSoundMachine m → let h = when_ended ticket m in IsSoundMachine h.after
-when_ended_holds ticket m holds = ended_holds m ticket holds
+when_ended_holds ticket m holds = of (lacks_room m)
+  where
+    by : PlaySettings → Step
+    by settings = ended m.saved.queue.entries settings m.player ticket
+
+    of : (b : Bool) → let x = making (cond b (unsaved (by (without_consume (settings_of m.saved)))) (by (settings_of m.saved))) m in
+        IsSoundMachine x.after
+    of true = ended_alone_holds m ticket holds
+    of false = ended_holds m ticket holds
 
 pub when_broken_holds : (ticket : ℕ) (cause : BrokenCause) (m : MachineState) → IsSoundMachine m → let h = when_broken ticket cause m in
     IsSoundMachine h.after
-when_broken_holds ticket cause m holds = failed_holds m ticket cause holds
+when_broken_holds ticket cause m holds = of (lacks_room m)
+  where
+    by : PlaySettings → Step
+    by settings = failed m.saved.queue.entries settings m.player ticket cause
+
+    of : (b : Bool) → let x = making (cond b (unsaved (by (without_consume (settings_of m.saved)))) (by (settings_of m.saved))) m in
+        IsSoundMachine x.after
+    of true = failed_alone_holds m ticket cause holds
+    of false = failed_holds m ticket cause holds
 
 finds_queue : (changes : List RowChange) (m : MachineState) → IsQueue m.saved.queue → let h = finds changes m in
     IsQueue h.after.saved.queue
@@ -130,14 +150,23 @@ when_found_holds job changes m holds = record {
   frame = frame_of (is_running job m);
 }
   where
-    queue_of : (b : Bool) → let h = cond b (finds (telling m.saved.songs (kept_changes m.saved.profile changes)) m)
-        (nothing_happens m) in IsQueue h.after.saved.queue
-    queue_of true = finds_queue (telling m.saved.songs (kept_changes m.saved.profile changes)) m holds.queue
+    rows : Happening
+    rows = finds (telling m.saved.songs (kept_changes m.saved.profile changes)) m
+
+    queue_in : (b : Bool) → let h = cond b (nothing_happens m) rows in IsQueue h.after.saved.queue
+    queue_in true = holds.queue
+    queue_in false = finds_queue (telling m.saved.songs (kept_changes m.saved.profile changes)) m holds.queue
+
+    queue_of : (b : Bool) → let h = cond b (if_room m rows) (nothing_happens m) in IsQueue h.after.saved.queue
+    queue_of true = queue_in (lacks_room m)
     queue_of false = holds.queue
 
-    frame_of : (b : Bool) → let h = cond b (finds (telling m.saved.songs (kept_changes m.saved.profile changes)) m)
-        (nothing_happens m) in IsWithinSong h.after
-    frame_of true = finds_within (telling m.saved.songs (kept_changes m.saved.profile changes)) m holds.frame
+    frame_in : (b : Bool) → let h = cond b (nothing_happens m) rows in IsWithinSong h.after
+    frame_in true = holds.frame
+    frame_in false = finds_within (telling m.saved.songs (kept_changes m.saved.profile changes)) m holds.frame
+
+    frame_of : (b : Bool) → let h = cond b (if_room m rows) (nothing_happens m) in IsWithinSong h.after
+    frame_of true = frame_in (lacks_room m)
     frame_of false = holds.frame
 
 pub when_scanned_holds : (job : ℕ) (m : MachineState) → IsSoundMachine m → let h = when_scanned job m in IsSoundMachine h.after

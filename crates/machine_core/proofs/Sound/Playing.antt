@@ -1,6 +1,6 @@
 -- The player stays sound through what follows the end of a song, and through the commands of playback.
 use Rattle.std.proofs.Common.{◌≡◌, ℕ, zero, suc, ◌+◌, Bool, true, false, cond, ◌==◌, ◌||◌, List, [], ◌∷◌}
-use Rattle.std.proofs.Common.{take, slice_get, Option, Some, None, Result, Ok, Err, refl, sym, subst}
+use Rattle.std.proofs.Common.{take, slice_get, Option, Some, None, Result, Ok, Err, refl, sym, ap, subst}
 use Rattle.std.specs.List.{AllByRecursion, list_any}
 use Rattle.std.specs.Prelude.{IfSome}
 use Rattle.play_queue.specs.declared.entry.Entry.{Entry}
@@ -196,6 +196,57 @@ pub failed_sound : (entries : List Entry) (settings : PlaySettings) (player : Pl
     → StepSound entries settings.options.random (failed_of entries settings player ticket cause (current_entry entries player.current))
 failed_sound entries settings player ticket cause sound =
     failed_of_sound entries settings player ticket cause (current_entry entries player.current) sound
+
+-- ---- steps by which no entry leaves the queue
+
+over_takes_none : (entries : List Entry) (settings : PlaySettings) (single : Single) (player : PlayerState) (place : Option (ℕ × ℕ))
+    → is_on settings.options.consume ≡ false → (over_at entries settings single player place).changes.removed ≡ None
+over_takes_none entries settings single player None off = refl
+over_takes_none entries settings single player (Some place) off = ap (λ (b : Bool). cond b (Some place.0) None) off
+
+ended_takes_none : (state : PlayState) (entries : List Entry) (settings : PlaySettings) (player : PlayerState) (ticket : ℕ)
+    → is_on settings.options.consume ≡ false → (ended_in state entries settings player ticket).changes.removed ≡ None
+ended_takes_none Stop entries settings player ticket off = refl
+ended_takes_none Pause entries settings player ticket off = refl
+ended_takes_none Play entries settings player ticket off = of (player.ticket == ticket)
+  where
+    of : (b : Bool)
+        → (cond b (over entries settings settings.options.single player) (unchanged player)).changes.removed ≡ None
+    of true = over_takes_none entries settings settings.options.single player (placed entries player.current) off
+    of false = refl
+
+failed_takes_none : (entries : List Entry) (settings : PlaySettings) (player : PlayerState) (ticket : ℕ) (cause : BrokenCause)
+    (entry : Option Entry) → is_on settings.options.consume ≡ false
+    → (failed_of entries settings player ticket cause entry).changes.removed ≡ None
+failed_takes_none entries settings player ticket cause None off = refl
+failed_takes_none entries settings player ticket cause (Some entry) off = of (passes entries settings player ticket cause)
+  where
+    of : (b : Bool)
+        → (cond b (passed entries settings player entry.uri) (unchanged (broken player ticket cause entry.uri))).changes.removed ≡ None
+    of true = over_takes_none entries settings Off player (placed entries player.current) off
+    of false = refl
+
+-- so the player is sound beside the queue that it had
+none_taken : (entries : List Entry) (random : Bool) (step : Step) → StepSound entries random step → step.changes.removed ≡ None
+    → IsSoundPlayer entries random step.player
+none_taken entries random step sound none =
+    sound entries (subst (λ (o : Option ℕ). Within (left_of o entries) entries) (sym none) (λ id h. h))
+
+pub ended_alone : (state : PlayState) (entries : List Entry) (settings : PlaySettings) (player : PlayerState) (ticket : ℕ)
+    → is_on settings.options.consume ≡ false → IsSoundPlayer entries settings.options.random player
+    → let step = ended_in state entries settings player ticket in IsSoundPlayer entries settings.options.random step.player
+ended_alone state entries settings player ticket off sound =
+    none_taken entries settings.options.random (ended_in state entries settings player ticket)
+    (ended_sound state entries settings player ticket sound) (ended_takes_none state entries settings player ticket off)
+
+pub failed_alone : (entries : List Entry) (settings : PlaySettings) (player : PlayerState) (ticket : ℕ) (cause : BrokenCause)
+    → is_on settings.options.consume ≡ false → IsSoundPlayer entries settings.options.random player
+    → let step = failed_of entries settings player ticket cause (current_entry entries player.current) in
+    IsSoundPlayer entries settings.options.random step.player
+failed_alone entries settings player ticket cause off sound =
+    none_taken entries settings.options.random (failed_of entries settings player ticket cause (current_entry entries player.current))
+    (failed_sound entries settings player ticket cause sound)
+    (failed_takes_none entries settings player ticket cause (current_entry entries player.current) off)
 
 -- ---- commands
 

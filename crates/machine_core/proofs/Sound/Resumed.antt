@@ -21,15 +21,17 @@ use Rattle.machine_core.specs.Happening.{nothing_happens}
 use Rattle.machine_core.specs.Keeping.{keeps, keeps_place, kept, kept_event, resumed_from, resumes, when_kept, when_resumed}
 use Rattle.machine_core.specs.Meaning.{Meaning}
 use Rattle.machine_core.specs.Reports.{when_broken, when_ended}
+use Rattle.machine_core.specs.Room.{caught, is_idle, room_back, when_room}
 use Rattle.machine_core.specs.Scanning.{when_found}
 use Rattle.machine_core.specs.Sound.{AreOwn, IsIn, IsSound, IsSoundMachine, IsSoundPlayer}
-use Rattle.machine_core.specs.State.{MachineState}
+use Rattle.machine_core.specs.State.{MachineState, lacks_room, told_room}
 use Rattle.machine_core.specs.Steps.{length_of, named_length}
 use Rattle.std.specs.List.{AllByRecursion}
 use Rattle.machine_core.proofs.KeepingLaws.{at_holds, at_sound, kept_holds, kept_sound}
 use Rattle.machine_core.proofs.KeptLaws.{kept_is}
 use Rattle.machine_core.proofs.KeptTimes.{times_keep}
 use Rattle.machine_core.proofs.Sound.Commands.{command_sound, when_broken_sound, when_ended_sound, when_found_sound}
+use Rattle.machine_core.proofs.Sound.Forms.{turned_sound}
 use Rattle.machine_core.proofs.Sound.Frame.{FrameWithin}
 use Rattle.machine_core.proofs.Sound.Ids.{all_behind, all_without, apart_without, has_here, has_later, own_behind, own_without}
 use Rattle.machine_core.proofs.Sound.Kept.{command_holds, when_broken_holds, when_ended_holds, when_found_holds}
@@ -96,6 +98,37 @@ when_kept_holds ticket m holds = of (counts m.player.state m.player.ticket ticke
     of : (b : Bool) → let h = cond b (keeps_place m) (nothing_happens m) in IsSoundMachine h.after
     of true = at_holds m holds
     of false = holds
+
+-- ---- it is told whether there is room
+
+caught_sound : (m : MachineState) → IsSound m → IsSound (caught m)
+caught_sound m sound = turned_sound m.saved.options.random m.saved.queue.entries m.saved.options.random m.player sound
+
+pub when_room_sound : (is_there : Bool) (m : MachineState) → IsSound m → let h = when_room is_there m in IsSound h.after
+when_room_sound false m sound = sound
+when_room_sound true m sound = of (lacks_room m)
+  where
+    caught_by : (b : Bool) → let h = cond b (nothing_happens (told_room true m)) (keeps_place (caught m)) in IsSound h.after
+    caught_by true = sound
+    caught_by false = at_sound (caught m) (caught_sound m sound)
+
+    of : (b : Bool) → let h = room_back b m in IsSound h.after
+    of true = caught_by (is_idle m.player)
+    of false = sound
+
+pub when_room_holds : (is_there : Bool) (m : MachineState) → IsSoundMachine m
+    → let h = when_room is_there m in IsSoundMachine h.after
+when_room_holds false m holds = record { queue = holds.queue; sound = holds.sound; frame = holds.frame }
+when_room_holds true m holds = of (lacks_room m)
+  where
+    caught_by : (b : Bool) → let h = cond b (nothing_happens (told_room true m)) (keeps_place (caught m)) in IsSoundMachine h.after
+    caught_by true = record { queue = holds.queue; sound = holds.sound; frame = holds.frame }
+    caught_by false =
+        at_holds (caught m) (record { queue = holds.queue; sound = caught_sound m holds.sound; frame = holds.frame })
+
+    of : (b : Bool) → let h = room_back b m in IsSoundMachine h.after
+    of true = caught_by (is_idle m.player)
+    of false = record { queue = holds.queue; sound = holds.sound; frame = holds.frame }
 
 -- ---- the player that goes on
 

@@ -10,11 +10,11 @@ use Rattle.player_core.specs.Choice.{chosen, placed}
 use Rattle.player_core.specs.Commands.{again_from, begun, gone_back, halted, in_front, named}
 use Rattle.player_core.specs.Commands.{played_from, previous_one, resumed, stepped, stepped_if_any}
 use Rattle.player_core.specs.Commands.{to_resume, unless_stopped}
-use Rattle.player_core.specs.Ending.{ended_in, followed_by, gone_on_or_stopped, held_if, over, over_at, repeats_one, waits}
+use Rattle.player_core.specs.Ending.{ended, ended_in, followed_by, gone_on_or_stopped, held_if, over, over_at, repeats_one, waits}
 use Rattle.player_core.specs.Order.{current_entry}
 use Rattle.player_core.specs.Player.{PlayerState, Step, gone_on, gone_to, in_round, left_out, started, stopped_without_song, unchanged}
 use Rattle.player_core.specs.Player.{without}
-use Rattle.player_core.specs.Reports.{broken, counts, failed_of, failure, followed_at, gone, gone_in_pause, gone_on_without, passed}
+use Rattle.player_core.specs.Reports.{broken, counts, failed, failed_of, failure, followed_at, gone, gone_in_pause, gone_on_without, passed}
 use Rattle.player_core.specs.Reports.{passes, takes_at}
 use Rattle.player_core.specs.Seek.{frame_at, frame_from, put_to, sought, sought_current, sought_here}
 use Rattle.player_core.specs.declared.block.Block.{Block}
@@ -49,7 +49,7 @@ use Rattle.machine_core.specs.Meaning.{edited, order_ops}
 use Rattle.machine_core.specs.Sound.{IsSound, IsSoundMachine, IsWithinSong}
 use Rattle.machine_core.specs.State.{MachineState, settings_of}
 use Rattle.machine_core.specs.Steps.{consume_ops, current_length, from_named, length_of, moves, named_entry, named_length}
-use Rattle.machine_core.specs.Steps.{puts, removal_ops, single_ops, step_in, steps}
+use Rattle.machine_core.specs.Steps.{puts, removal_ops, single_ops, step_in, steps, without_consume}
 use Rattle.machine_core.specs.declared.steps.PlayerStep.{PlayerStep}
 use Rattle.machine_core.specs.declared.steps.PlayerStep.TheVariants.{Resume, Play as PlayNamed, Seek, Next, Ended, Failed}
 use Rattle.machine_core.proofs.CommandForms.{KeptBy}
@@ -57,6 +57,7 @@ use Rattle.machine_core.proofs.Sound.Edits.{op_has, ruled_has, song_test}
 use Rattle.machine_core.proofs.Sound.Forms.{edited_sound, moves_sound}
 use Rattle.machine_core.proofs.Sound.Frame.{FrameWithin, is_song, least_within, named_row, none_within, row_kept, row_kept_at}
 use Rattle.machine_core.proofs.Sound.Leaving.{stays_deleted}
+use Rattle.machine_core.proofs.Sound.Playing.{ended_alone, failed_alone}
 use Rattle.machine_core.proofs.Sound.Queues.{consumed_stays, batch_stays, queue_stays}
 use Rattle.machine_core.proofs.Sound.Steps.{IsAt, no_entry, none_placed, placed_at, stays_song}
 
@@ -440,6 +441,67 @@ pub failed_holds : (m : MachineState) (ticket : ℕ) (cause : BrokenCause)
 failed_holds m ticket cause =
     moved_holds (step_in (Failed ticket cause) m) m (moves_sound (Failed ticket cause) m) (λ holds.
     failed_within m ticket cause (current_entry m.saved.queue.entries m.player.current) holds.frame)
+
+-- ---- steps by which no entry leaves the queue
+
+over_framed : (songs : List Row) (entries : List Entry) (settings : PlaySettings) (single : Single) (player : PlayerState)
+    (place : Option (ℕ × ℕ)) → Framed songs entries player
+    → let step = over_at entries settings single player place in Framed songs entries step.player
+over_framed songs entries settings single player None h = h
+over_framed songs entries settings single player (Some place) h =
+    let step = over_at entries settings single player (Some place) in
+    framed_none songs entries step.player
+    (held_none (waits single settings.manners settings.options.repeat) _ (next_none settings.options.random _
+    (followed_by settings single entries player.played place.0 place.1)))
+
+ended_framed : (songs : List Row) (entries : List Entry) (settings : PlaySettings) (state : PlayState) (player : PlayerState) (ticket : ℕ)
+    → Framed songs entries player → let step = ended_in state entries settings player ticket in Framed songs entries step.player
+ended_framed songs entries settings Stop player ticket h = h
+ended_framed songs entries settings Pause player ticket h = h
+ended_framed songs entries settings Play player ticket h = of (player.ticket == ticket)
+  where
+    of : (b : Bool) → let step : Step = cond b (over entries settings settings.options.single player) (unchanged player) in
+        Framed songs entries step.player
+    of true = over_framed songs entries settings settings.options.single player (placed entries player.current) h
+    of false = h
+
+failed_framed : (songs : List Row) (entries : List Entry) (settings : PlaySettings) (player : PlayerState) (ticket : ℕ)
+    (cause : BrokenCause) (entry : Option Entry) → Framed songs entries player
+    → let step = failed_of entries settings player ticket cause entry in Framed songs entries step.player
+failed_framed songs entries settings player ticket cause None h = h
+failed_framed songs entries settings player ticket cause (Some entry) h = of (passes entries settings player ticket cause)
+  where
+    stopped_by : (b : Bool)
+        → Framed songs entries (cond b (record player { state = Stop; error = Some (failure cause entry.uri) }) player)
+    stopped_by true = h
+    stopped_by false = h
+
+    of : (b : Bool)
+        → let step : Step = cond b (passed entries settings player entry.uri) (unchanged (broken player ticket cause entry.uri)) in
+        Framed songs entries step.player
+    of true = over_framed songs entries settings Off player (placed entries player.current) h
+    of false = stopped_by (counts player.state player.ticket ticket)
+
+-- so the player makes such a step beside the queue that it had
+pub ended_alone_holds : (m : MachineState) (ticket : ℕ) → IsSoundMachine m
+    → let step = ended m.saved.queue.entries (without_consume (settings_of m.saved)) m.player ticket in
+    IsSoundMachine (record m { player = step.player })
+ended_alone_holds m ticket holds = record {
+  queue = holds.queue;
+  sound = ended_alone m.player.state m.saved.queue.entries (without_consume (settings_of m.saved)) m.player ticket refl holds.sound;
+  frame = ended_framed m.saved.songs m.saved.queue.entries (without_consume (settings_of m.saved)) m.player.state m.player ticket
+      holds.frame;
+}
+
+pub failed_alone_holds : (m : MachineState) (ticket : ℕ) (cause : BrokenCause) → IsSoundMachine m
+    → let step = failed m.saved.queue.entries (without_consume (settings_of m.saved)) m.player ticket cause in
+    IsSoundMachine (record m { player = step.player })
+failed_alone_holds m ticket cause holds = record {
+  queue = holds.queue;
+  sound = failed_alone m.saved.queue.entries (without_consume (settings_of m.saved)) m.player ticket cause refl holds.sound;
+  frame = failed_framed m.saved.songs m.saved.queue.entries (without_consume (settings_of m.saved)) m.player ticket cause
+      (current_entry m.saved.queue.entries m.player.current) holds.frame;
+}
 
 -- ---- commands that change the player alone
 

@@ -25,7 +25,7 @@ use play_queue::Target;
 use profile::Profile;
 use song_db::{SongDb, SongRow};
 use song_files::Tag;
-use state_codec::{ListOp, Op, RowNumbers};
+use state_codec::RowNumbers;
 use std::alloc::Global;
 use values::chosen_values;
 use writing::{write_by_uri, write_chosen_files, write_values};
@@ -87,8 +87,8 @@ impl Machine {
     {
         match command {
             FindingCommand::Add(search, to) => self.add_found(alloc, search, *to, work),
-            FindingCommand::AddToPlaylist(name, search) => {
-                self.add_to_playlist(alloc, name.as_str(), search, work)
+            FindingCommand::AddToPlaylist(name, search, to) => {
+                self.add_to_playlist(alloc, name.as_str(), search, *to, work)
             }
             FindingCommand::Count(filter) => self.count(alloc, filter, work),
             FindingCommand::CountGroups(tag, filter) => {
@@ -187,15 +187,16 @@ impl Machine {
         alloc: Global,
         name: &str,
         search: &Search,
+        to: Option<u32>,
         work: &mut Work,
     ) -> Result<(), Failure>
         requires { HasRoom command_room work.old }
-        ensures { Performs (finding_meaning all_in_mask (AddToPlaylist name.now search.now) self.old) self.old self.new work.old work.new
-            result }
+        ensures { Performs (finding_meaning all_in_mask (AddToPlaylist name.now search.now to) self.old) self.old self.new work.old
+            work.new result }
     {
         let name = list_name(alloc, name)?;
         let rows = found_numbers(alloc, self.saved.profile(), self.saved.songs(), search)?;
-        self.edit(alloc, Op::List(ListOp::Add { name, rows }), work)
+        self.add_songs(alloc, name, rows, to, work)
     }
 
     // `playlistfind`, `playlistsearch`: the entries of the queue.

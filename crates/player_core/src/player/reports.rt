@@ -1,8 +1,9 @@
 // What the output reports, and what else changes beside the queue.
-ghost use Rattle.std.specs.Prelude.{◌≡◌, None, OnErr, OnOk, IsOkUnless};
+ghost use Rattle.std.specs.Prelude.{◌≡◌, None, Some, OnErr, OnOk, IsOkUnless};
 ghost use Rattle.player_core.specs.Reports.{counts, fed, cut, turned};
 
 use super::Player;
+use crate::failure::PlayFailure;
 use crate::played::make_room;
 use crate::playing::PlayState;
 use crate::refusal::PlayerError;
@@ -55,5 +56,12 @@ impl Player {
         ensures { self.new ≡ record self.old { error = None } }
     {
         self.playing.error = None;
+    }
+
+    /// Shows a failure that is none of a song's.
+    pub fn show(&mut self, failure: PlayFailure)
+        ensures { self.new ≡ record self.old { error = Some failure } }
+    {
+        self.playing.error = Some(failure);
     }
 }

@@ -13,14 +13,16 @@ returns c =
       ended = stays.ended;
       broken = stays.broken;
       found = stays.found;
-      scanned = stays.scanned;
+      missed = λ job missing m is. (stays.scanned job m is).1 missing;
+      scanned = λ job m is. (stays.scanned job m is).0;
       clocked = stays.clocked;
       kept_at = stays.kept_at;
       resumed = stays.resumed;
+      told = stays.told;
     } in
     record {
-      sound = λ kept history saved wide sound place is. ((kept_machine keeps kept history saved wide sound).step place is).sound;
-      goes_on = λ kept history plays saved wide sound begun.
+      sound = λ kept history saved wide sound. (kept_machine keeps kept history saved wide sound).sound;
+      goes_on = λ kept history plays saved wide sound room begun.
           machine_goes_on c.a_restart_goes_on.ensures plays (replay kept history).machine
-          (kept_machine keeps kept history saved wide sound) begun;
+          (kept_machine keeps kept history saved wide sound) room begun;
     }

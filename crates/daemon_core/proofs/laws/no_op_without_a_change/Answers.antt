@@ -15,5 +15,7 @@ returns c =
       found = of_event.found;
       kept_none = of_event.kept_none;
       kept_same = of_event.kept_same;
+      told_none = of_event.told_none;
+      told_same = of_event.told_same;
     } in
     record { none = no_op known; same = nothing_changed known }

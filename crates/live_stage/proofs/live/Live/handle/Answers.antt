@@ -4,8 +4,9 @@ use Rattle.state_codec.specs.declared.op.Op.{Op}
 use Rattle.state_codec.specs.Layout.{written_layout}
 use Rattle.state_codec.specs.SavedState.{SavedState}
 use Rattle.live_stage.specs.Answer.{profile_of_step}
-use Rattle.live_stage.specs.Numbers.{greatest, longest_record, next_numbers, record_bytes}
+use Rattle.live_stage.specs.Numbers.{FileNumbers, greatest, longest_record, next_numbers, record_bytes, recorded}
 use Rattle.live_stage.specs.Turns.{recorded_content}
+use Rattle.live_stage.specs.Writing.{file_of}
 use Rattle.std.specs.List.{AllByRecursion}
 use Rattle.state_codec.specs.Ops.{IsOp}
 use Rattle.state_codec.specs.Applied.{all_applied}
@@ -14,7 +15,7 @@ use Rattle.daemon_core.specs.State.{State}
 use Rattle.daemon_core.specs.Step.{Stepped, step}
 use Rattle.live_stage.proofs.FoundLaws.{find_now, find_still, find_either, find_after, content_after, content_recorded}
 use Rattle.live_stage.proofs.ProfileLaws.{profile_stays, written_so}
-use Rattle.live_stage.proofs.TurnLaws.{still_in_file, no_call_made, numbers_next, record_short}
+use Rattle.live_stage.proofs.TurnLaws.{still_in_file, no_call_made, numbers_next, put_off_recorded, record_short}
 use Rattle.live_stage.proofs.live.Live.handle.Goals as goal
 
 pub record_ops-requires-clause-takes : goal.record_ops-requires-clause-takes
@@ -114,6 +115,11 @@ returns-clause-step g c =
     let ops_are : c.deref.result.now ≡ (let of_answer : Stepped = asked c.new.result.refused_at in of_answer.ops) =
     c.deref.ensures.value ∙ c.in-Ok.ensures.ok.ops ∙ ap (λ (k : Option ℕ). let of_answer : Stepped = asked k in of_answer.ops) place in
     let below : c.self.inside.journal.base + c.self.inside.journal.count < greatest = search rules in
+    let spelled : c.profile-profile.result ≡ profile_of_step (asked c.new.result.refused_at) =
+    c.profile-profile.ensures ∙ ap (λ (s : SavedState). s.profile) c.as_saved.ensures
+    ∙ ap (λ (s : State). s.machine.saved.profile) c.in-Ok.ensures.ok.after
+    ∙ ap (λ (k : Option ℕ). profile_of_step (asked k)) place in
+    let begun : FileNumbers = record (file_of c.self.inside.journal) { is_put_off = c.self.inside.put_off } in
     rw (← c.self.view_is) (record {
       state = did.after ∙ ap (λ (k : Option ℕ). let now : Stepped = asked k in now.after) place;
       outputs = ap (λ t. t.outputs) c.new.ensures ∙ did.outputs ∙ ap (λ (k : Option ℕ). let now : Stepped = asked k in now.outputs) place;
@@ -128,7 +134,11 @@ returns-clause-step g c =
             event = c.self.inside.event;
             last_record = min (c.self.inside.journal.base + c.self.inside.journal.count) greatest;
           }) ops) ops_are;
-      file = search rules;
+      file = ap (λ (f : FileNumbers). let g : FileNumbers = record f { is_put_off = c.self.inside.put_off } in g)
+          c.in_ok-number.ensures.number.file
+          ∙ put_off_recorded c.profile-profile.result (file_of c.self.inside.journal) c.deref.result.now c.self.inside.put_off
+          ∙ ap (λ (ops : List Op). recorded c.profile-profile.result begun ops) ops_are
+          ∙ ap (λ (p : Profile). let of_answer : Stepped = asked c.new.result.refused_at in recorded p begun of_answer.ops) spelled;
     })
 
 pub returns-clause-any_moment : goal.returns-clause-any_moment

@@ -9,9 +9,12 @@ use Rattle.live_stage.specs.Answer.{Answer}
 use Rattle.live_stage.specs.Found.{state_of}
 use Rattle.live_stage.specs.Group.{RefusesFront, file_with, history_in}
 use Rattle.live_stage.specs.LiveState.{LiveState}
+use Rattle.live_stage.specs.Numbers.{FileNumbers}
 use Rattle.live_stage.specs.Staging.{AreStaged, AreTaken}
 use Rattle.live_stage.specs.Transcript.{replayed}
+use Rattle.live_stage.specs.Writing.{file_of}
 use Rattle.live_stage.proofs.FoundLaws.{find_now}
+use Rattle.live_stage.proofs.GroupLaws.{put_off_with}
 use Rattle.live_stage.proofs.HandledLaws.{all_refused, handled, none_answered, of_begun, taken_of}
 use Rattle.state_codec.specs.Layout.{written_layout}
 use Rattle.live_stage.proofs.PhaseLaws.{none_found, records_found}
@@ -108,7 +111,9 @@ returns-clause-group g c =
     (subst (λ (v : LiveState g.row.D.Denot). AreTaken c.begin-begin.result v.state c.args.events.items answers.items
     c.stage_events-is_refused.result c.reverse-2.new.self.items c.stage_events-is_refused.new.group) c.self.view_is taken)
     c.requires.due some _ refl (omega (arith, event, c.len.ensures, many)) (omega (arith, numbered, began, last, base, written.count))
-    (written.file ∙ ap (λ (v : LiveState g.row.D.Denot). file_with v.file c.stage_events-is_refused.new.group) c.self.view_is)
+    (ap (λ (f : FileNumbers). let laid : FileNumbers = record f { is_put_off = c.self.inside.put_off } in laid) written.file
+    ∙ put_off_with (file_of c.self.inside.journal) c.stage_events-is_refused.new.group c.self.inside.put_off
+    ∙ ap (λ (v : LiveState g.row.D.Denot). file_with v.file c.stage_events-is_refused.new.group) c.self.view_is)
 
 pub returns-clause-any_moment : goal.returns-clause-any_moment
 returns-clause-any_moment g c =

@@ -102,7 +102,7 @@ returns-clause-stored g c = λ ha hb.
     let hb' = got.later.b.honesty.0 hb in
     let later = c.handle_group.ensures.later in
     written_from c.args.self.now c.make_ready.new.self c.handle_group.new.self c.in_default.ensures.ready
-    c.in-Ok-handle_group.group.turns.items done.some g.D.Disk.history (c.in_default.ensures.content ha hb)
+    c.in-Ok-handle_group.group.turns.items done.some done.group g.D.Disk.history (c.in_default.ensures.content ha hb)
     (c.in-Ok-handle_group.ensures.any_moment ha' hb').content done.bounded
     (c.is_broken-broken.ensures.stored (later.a.honesty.0 ha') (later.b.honesty.0 hb') c.in-Ok-handle_group.ensures.refuses.usable)
 

@@ -1,10 +1,8 @@
-use Rattle.std.proofs.Common.{◌≡◌, List, [], ap, sym, ◌∙◌}
+use Rattle.std.proofs.Common.{◌≡◌, List, ap, sym, ◌∙◌}
 use Rattle.song_db.specs.Row.{Row}
-use Rattle.state_codec.specs.declared.op.Op.TheVariants.{List as OfLists}
-use Rattle.state_codec.specs.declared.op.list_op.ListOp.TheVariants.{Add}
 use Rattle.machine_core.specs.Finding.{finding_meaning, found as found_by, numbers_in}
+use Rattle.machine_core.specs.ListMoves.{adds_songs}
 use Rattle.machine_core.specs.Lists.{list_name}
-use Rattle.machine_core.specs.Meaning.{edits}
 use Rattle.machine_core.specs.State.{MachineState}
 use Rattle.machine_core.proofs.Answering.{also}
 use Rattle.machine_core.proofs.LookUps.{found, not_found}
@@ -15,8 +13,7 @@ unfolding finding_meaning
 returns-in_err-name c =
     let m = c.args.self.now in
     not_found (list_name c.args.name.now)
-    (λ good. edits
-    (OfLists (Add good (numbers_in m.saved.songs (found_by m.saved.profile c.args.search.now m.saved.songs)))) [] m) m
+    (λ good. adds_songs good (numbers_in m.saved.songs (found_by m.saved.profile c.args.search.now m.saved.songs)) c.args.to m) m
     c.args.work.now c.in_err-name.field-0.0 c.from_residual.result c.in_err-name.ensures c.from_residual.ensures.1
 
 pub returns : goal.returns
@@ -32,6 +29,6 @@ returns c =
     ∙ ap (λ (songs : List Row). numbers_in songs (found_by m.saved.profile search songs)) songs in
     also _ _ _ _ _ _ _
     (found (list_name c.args.name.now)
-    (λ good. edits (OfLists (Add good (numbers_in m.saved.songs (found_by m.saved.profile search m.saved.songs)))) [] m)
+    (λ good. adds_songs good (numbers_in m.saved.songs (found_by m.saved.profile search m.saved.songs)) c.args.to m)
     name c.in_ok-name.ensures
-    ∙ (λ i. edits (OfLists (Add name (sym rows i))) [] m)) c.edit.ensures.performs
+    ∙ (λ i. adds_songs name (sym rows i) c.args.to m)) c.add_songs.ensures

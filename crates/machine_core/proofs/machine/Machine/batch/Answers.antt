@@ -10,7 +10,7 @@ use Rattle.machine_core.specs.Keeping.{kept_event}
 use Rattle.machine_core.specs.Scanning.{changes_rows, finds, kept_changes, telling, when_found}
 use Rattle.machine_core.specs.State.{MachineState}
 use Rattle.machine_core.proofs.KeepingLaws.{kept_nothing}
-use Rattle.machine_core.proofs.Scans.Laws.{found_is, none_told, nothing_happened, some_told}
+use Rattle.machine_core.proofs.Scans.Laws.{found_is, none_found, none_told, nothing_happened, some_told}
 use Rattle.machine_core.proofs.Scans.Rows.{telling_kept, told_few}
 use Rattle.machine_core.proofs.machine.Machine.batch.Goals as goal
 
@@ -37,7 +37,7 @@ returns-in-Some-clause-ok c =
     let all : telling m.saved.songs (kept_changes m.saved.profile c.args.changes) ≡ c.in-Some.told =
     sym (told.0 ∙ c.in_ok-told.ensures.told ∙ (λ i. telling (songs i) (kept_changes (profile i) c.args.changes))) in
     let means : when_found c.args.job c.args.changes m ≡ changes_rows c.in-Some.told m =
-    found_is c.args.job c.args.changes m (sym c.if-not-runs_job.ensures)
+    found_is c.args.job c.args.changes m (sym c.if-not-runs_job.ensures) (sym c.if-lacks_room.ensures)
     ∙ ap (λ (t : List RowChange). finds t m) all ∙ told.1 in
     subst (λ (h : Happening). IfOk c.change_rows.result (λ happened. HasHappened (kept_event m h) m c.change_rows.new.self happened))
     (sym means) c.change_rows.ensures.ok
@@ -56,6 +56,16 @@ returns-in-None-clause-ok c =
     let few : length c.in_ok-told.told.items ≤ 64 = omega (arith, ap length told, told_few m.saved.profile m.saved.songs changes, most) in
     let none : c.in_ok-told.told.items ≡ [] = none_told c.new.result c.in_ok-told.told.items c.new.ensures c.in-None.is few in
     let means : when_found c.args.job changes m ≡ nothing_happens m =
-    found_is c.args.job changes m (sym c.if-not-runs_job.ensures) ∙ ap (λ (t : List RowChange). finds t m) (sym told ∙ none) in
+    found_is c.args.job changes m (sym c.if-not-runs_job.ensures) (sym c.if-lacks_room.ensures)
+    ∙ ap (λ (t : List RowChange). finds t m) (sym told ∙ none) in
     subst (λ (h : Happening). HasHappened h m m c.nothing-in-None.result) (sym (ap (kept_event m) means ∙ kept_nothing m))
     (nothing_happened m c.nothing-in-None.result c.nothing-in-None.ensures.ops c.nothing-in-None.ensures.changed)
+
+pub returns-then-lacks_room-clause-ok : goal.returns-then-lacks_room-clause-ok
+returns-then-lacks_room-clause-ok c =
+    let m = c.args.self.now in
+    let means : when_found c.args.job c.args.changes m ≡ nothing_happens m =
+    none_found c.args.job c.args.changes m (sym c.if-not-runs_job.ensures) (sym c.if-lacks_room.ensures) in
+    subst (λ (h : Happening). HasHappened h m m c.nothing-then-lacks_room.result) (sym (ap (kept_event m) means ∙ kept_nothing m))
+    (nothing_happened m c.nothing-then-lacks_room.result c.nothing-then-lacks_room.ensures.ops
+    c.nothing-then-lacks_room.ensures.changed)

@@ -15,8 +15,7 @@ returns-clause-ok c =
     let m = c.args.self.now in
     let n = c.make_batch.new.self in
     let k = c.keep_since.new.self in
-    let profile = c.profile-profile.result in
-    let under : profile ≡ m.saved.profile = c.profile-profile.ensures ∙ ap (λ (k : MachineState). k.saved.profile) c.self.view_is in
+    let profile = c.keeping-keeping.result in
     let changes = c.args.changes in
     let before = c.before-before.result in
     let had : c.len-stickers.result ≡ length m.saved.stickers =
@@ -24,7 +23,7 @@ returns-clause-ok c =
     let has : c.len.result ≡ length k.saved.stickers =
     c.len.ensures.count ∙ ap length (c.stickers-2.ensures ∙ ap (λ (k : MachineState). k.saved.stickers) c.self-2.view_is) in
     kept_rows_changed changes m n k profile before _ c.requires c.in_ok-ops.ensures.machine
-    c.before-before.ensures.value under c.keep_since.ensures.machine
+    c.before-before.ensures.value c.keeping-keeping.ensures c.keep_since.ensures.machine
     (c.keep_since.ensures.ops ∙ ap (λ (l : List Op). l ++ if_kept profile (keep_ops_since before n)) c.in_ok-ops.ensures.ops)
     ((λ i. record (c.changed_since-changed.ensures i) { sticker = not (had i == has i) })
     ∙ (λ i. record (changed_since before (c.deref.ensures.value i) k) {

@@ -1,6 +1,6 @@
-use Rattle.std.proofs.Common.{◌≡◌, ap, ◌∙◌, arith}
+use Rattle.std.proofs.Common.{◌≡◌, ◌∙◌, arith}
 use Rattle.machine_core.specs.Command.{meaning}
-use Rattle.machine_core.specs.State.{MachineState}
+use Rattle.machine_core.specs.Room.{under_room}
 use Rattle.machine_core.proofs.KeptWork.{none_performed, performed_aside, performed_more}
 use Rattle.machine_core.proofs.machine.Machine.perform_aside.Goals as goal
 
@@ -10,20 +10,22 @@ give_back-requires c =
     omega (
       arith,
       c.in_ok-set_aside.ensures.ok,
-      performed_more c.dispatch-done.result (meaning c.args.mask c.args.command m) m c.dispatch-done.new.self c.set_aside.new.self
-          c.dispatch-done.new.work c.dispatch-done.ensures.performs,
+      performed_more c.dispatch_in_room-done.result (under_room m (meaning c.args.mask c.args.command m)) m
+          c.dispatch_in_room-done.new.self c.set_aside.new.self c.dispatch_in_room-done.new.work c.dispatch_in_room-done.ensures.performs,
     )
 
 pub returns-clause-performs : goal.returns-clause-performs
 returns-clause-performs c =
     let m = c.args.self.now in
-    performed_aside (meaning c.args.mask c.args.command m) m c.dispatch-done.new.self c.args.work.now c.set_aside.new.self
-    c.dispatch-done.new.work c.give_back.new.self c.args.profile c.requires.under c.in_ok-set_aside.ensures.text
+    performed_aside (under_room m (meaning c.args.mask c.args.command m)) m c.dispatch_in_room-done.new.self c.args.work.now
+    c.set_aside.new.self
+    c.dispatch_in_room-done.new.work c.give_back.new.self c.args.profile c.requires.under c.in_ok-set_aside.ensures.text
     c.in_ok-set_aside.ensures.ops c.in_ok-set_aside.ensures.ok c.give_back.ensures.text c.give_back.ensures.ops c.give_back.ensures.size
-    c.dispatch-done.result c.dispatch-done.ensures.performs
+    c.dispatch_in_room-done.result c.dispatch_in_room-done.ensures.performs
 
 pub returns-in_err-set_aside-clause-performs : goal.returns-in_err-set_aside-clause-performs
 returns-in_err-set_aside-clause-performs c =
-    none_performed (meaning c.args.mask c.args.command c.args.self.now) c.args.self.now c.args.work.now c.set_aside.new.self
+    none_performed (under_room c.args.self.now (meaning c.args.mask c.args.command c.args.self.now)) c.args.self.now c.args.work.now
+    c.set_aside.new.self
     c.in_err-set_aside.field-0.0 c.from_residual.result c.args.profile c.in_err-set_aside.ensures.err c.requires.under
     c.in_err-set_aside.ensures.refused c.from_residual.ensures.1

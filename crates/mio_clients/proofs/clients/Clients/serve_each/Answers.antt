@@ -57,9 +57,12 @@ left-preserved g c =
           (serves_twice g.S.Stream.remaining g.S.Stream.contents true c.args.self.now c.left.self c.serve_some-served.new.self
           c.args.parts.now.items c.left.parts.items c.serve_some-served.new.parts.items c.args.pass c.left.pass
           c.serve_some-served.result.1 c.left.invariant.serves serves);
-      quiet = subst (λ (s : ConnectionsState g.row.S.Denot). QuietBehind (is_some c.args.bound) c.saturating_sub-left.result s.events) (sym same)
-          (subst (λ (n : ℕ). QuietBehind (is_some c.args.bound) n c.serve_some-served.new.self.events) (sym c.saturating_sub-left.ensures)
-          (takes (is_some c.args.bound) c.left.left (c.serves_more.ensures.0 c.left-test.true).0 c.left.invariant.quiet));
+      quiet = subst (λ (s : ConnectionsState g.row.S.Denot). QuietBehind (is_some c.args.bound) c.still_servable-left.result s.events) (sym same)
+          (subst (λ (t : Bool). QuietBehind t c.still_servable-left.result c.serve_some-served.new.self.events) c.is_some-is_bounded.ensures
+          (c.still_servable-left.ensures.quiet (subst (λ (t : Bool). QuietBehind t c.saturating_sub-most.result c.serve_some-served.new.self.events)
+          (sym c.is_some-is_bounded.ensures)
+          (subst (λ (n : ℕ). QuietBehind (is_some c.args.bound) n c.serve_some-served.new.self.events) (sym c.saturating_sub-most.ensures)
+          (takes (is_some c.args.bound) c.left.left (c.serves_more.ensures.0 c.left-test.true).0 c.left.invariant.quiet)))));
       room = room;
       looks = looks_more c.left.parts.items c.serve_some-served.new.parts.items serves.added c.split_at.result.1.now c.left.looks
           c.looks_in-looked.result c.saturating_add-looks.result c.len-from.result serves.parts from

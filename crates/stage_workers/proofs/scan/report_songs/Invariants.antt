@@ -1,6 +1,6 @@
 use Rattle.std.proofs.Common.{◌≡◌}
 use Rattle.stage_workers.specs.Working.{GoesOn}
-use Rattle.stage_workers.proofs.scan.scan_once.Given as goal
+use Rattle.stage_workers.proofs.scan.report_songs.Given as goal
 
 abbrev pub invariant-loop : goal.invariant-loop
 invariant-loop g l = record {
