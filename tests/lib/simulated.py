@@ -366,7 +366,7 @@ class Episode:
                 states.append(self.clients.state)
             self.possible, self.is_over = states, True
             return False
-        if woken != [len(events)]:
+        if woken not in ([len(events) + more] for more in range(self.more_wakes + 1)):
             wanted = [f"woken {len(events)}" if it.startswith("woken ") else it for it in printed]
             raise Finding(f"for {len(events)} reports the loop was woken so often: {woken}", wanted)
         for event in events:
@@ -477,9 +477,10 @@ class Episode:
             return take(printed)
         self.counts["refused memory"] += 1
         # A disk in memory that finds none has a fault.
-        self.may_break = True
+        # A worker that finds none wakes the loop, with the wide profile, since it may be room on the disk that it waits for.
+        self.may_break, self.more_wakes = True, int(self.is_wide)
         taken = take_scarce(printed)
-        self.may_break = False
+        self.may_break, self.more_wakes = False, 0
         return taken
 
     def scarce_play(self, printed):
@@ -756,7 +757,7 @@ class Episode:
             raise Finding(f"{what} is none of {len(states)}: {unlike(found, greeting, asked)}", wanted)
         return kept
 
-    may_break = False
+    may_break, more_wakes = False, 0
 
     # All of them.
 
