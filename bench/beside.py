@@ -18,36 +18,18 @@ ROOT = os.path.dirname(os.path.dirname(os.path.abspath(__file__)))
 sys.path[:0] = [f"{ROOT}/tests/lib", f"{ROOT}/contrib/lib"]
 import layout
 from clients import Client
-from daemons import free_port
+from daemons import Daemon, make_pipe, memory_of
 from measured import QUARTER, SONGS, Appends
-from scripts import configuration, write
+from other_mpd import RealMpd
+from scripts import read
 
 OURS, STOCK, MPD, BARE = "ours", "ours with stock_clients", "MPD", "bare append"
 # The setting by which clients made for MPD are served.
-SERVED = ("stock_clients:=true",)
+SERVED = {"stock_clients:": "true"}
 # So long a queue is, and so many rounds of a row there are, unless they take so many seconds, the last one apart.
 ENTRIES, ROUNDS, SECONDS = 16_000, 4, 5
-CONFIGURATION_OF_MPD = """music_directory "{music}"
-db_file "{folder}/database"
-sticker_file "{folder}/stickers"
-state_file "{folder}/state"
-log_file "{folder}/log"
-bind_to_address "{folder}/socket"
-bind_to_address "127.0.0.1"
-port "{port}"
-max_output_buffer_size "65536"
-auto_update "no"
-audio_output {{
-    type "null"
-    name "none"
-    mixer_type "software"
-}}
-"""
-
-
-def text_of(path):
-    with open(path, encoding="utf-8") as file:
-        return file.read()
+# What MPD's configuration has beside that of the tests.
+OF_MPD = 'state_file "{0}/state"\nmax_output_buffer_size "65536"\n'
 
 
 def connect(address):
@@ -60,19 +42,16 @@ def connect(address):
 class Server:
     """A daemon, or MPD, in a folder of its own; the daemon with further settings."""
 
-    def __init__(self, name, folder, music, program, settings=()):
-        port = free_port()
+    def __init__(self, name, folder, music, program, settings):
         self.name, self.folder, self.process = name, folder, None
-        self.addresses = {"unix": f"{folder}/socket", "tcp": ("127.0.0.1", port)}
-        os.makedirs(folder)
         if name == MPD:
-            write(f"{folder}/mpd.conf", CONFIGURATION_OF_MPD.format(music=music, folder=folder, port=port))
-            self.words = [program, "--no-daemon", "mpd.conf"]
+            made = RealMpd(program, folder, OF_MPD.format(folder), music, "software")
+            self.words = made.words
         else:
-            os.mkfifo(f"{folder}/sound")
-            write(f"{folder}/c.toml", configuration([f"music={music}", f"tcp=127.0.0.1:{port}", "unix=socket", "output=sound", *settings]))
-            subprocess.run([program, "create", "c.toml"], cwd=folder, check=True, stdout=subprocess.DEVNULL)
+            make_pipe(folder)
+            made = Daemon(program, folder, music=music, **settings).create()
             self.words = [program, "serve", "c.toml"]
+        self.addresses = {"unix": f"{folder}/socket", "tcp": ("127.0.0.1", made.port)}
 
     def start(self):
         """Starts it, and gives the nanoseconds until it greets."""
@@ -87,7 +66,7 @@ class Server:
                 return time.perf_counter_ns() - begun
             except OSError:
                 time.sleep(0.0002)
-        sys.exit(f"{self.name} ended: {text_of(f'{self.folder}/told')}")
+        sys.exit(f"{self.name} ended: {read(f'{self.folder}/told').decode()}")
 
     def client(self):
         return connect(self.addresses["unix"])
@@ -99,8 +78,7 @@ class Server:
 
     def resident(self):
         """The resident memory in KiB."""
-        lines = text_of(f"/proc/{self.process.pid}/status").splitlines()
-        return next(int(line.split()[1]) for line in lines if line.startswith("VmRSS:"))
+        return memory_of(self.process)
 
     def processor(self):
         """The nanoseconds of processor time that it has taken, with its threads that have ended (clock_getcpuclockid(3))."""
@@ -126,6 +104,12 @@ def servers_of(said, kinds, make_music, name="music"):
                 it.end()
 
 
+def in_turns(servers, rounds):
+    """Each server in each of so many rounds, the last one first in every second."""
+    for turn in range(rounds):
+        yield from servers[:: 1 if turn % 2 else -1]
+
+
 class Bench:
     """What takes turns in rounds, and bare appends beside it."""
 
@@ -135,12 +119,11 @@ class Bench:
     def turns(self, round_of):
         """The times, by name, that rounds of each server give."""
         times, end = collections.defaultdict(list), time.monotonic() + SECONDS
-        for turn in range(ROUNDS):
-            if turn and time.monotonic() > end:
+        for at, server in enumerate(in_turns(self.servers, ROUNDS)):
+            if at and not at % len(self.servers) and time.monotonic() > end:
                 break
-            for server in self.servers[:: 1 if turn % 2 else -1]:
-                for name, taken in round_of(server).items():
-                    times[name] += taken
+            for name, taken in round_of(server).items():
+                times[name] += taken
         return times
 
     def append(self, count=1):
@@ -186,10 +169,13 @@ def show(title, times, *further):
     print(f"{title}: {'; '.join([*said, *ratios, *further])}", flush=True)
 
 
-def ask_all(address, clients, lines, moment, bare):
+def ask_all(address, clients, lines, moment=0, bare=None, before=()):
     """So many clients ask these lines from this moment on, each the next one when it was answered: the times, those of bare appends between
-    them where a file for these is given, and when all was over."""
-    streams = {it.fileno(): it for it in [connect(address).socket for _ in range(clients)]}
+    them where a file for these is given, and when all was over. Before that each asks for what is to be asked before."""
+    asking = [connect(address) for _ in range(clients)]
+    for it in asking:
+        it.do(*before)
+    streams = {it.socket.fileno(): it.socket for it in asking}
     poll, room, begun, ends, times, left = select.epoll(), bytearray(1 << 20), {}, {}, [], iter(lines)
     appends, plain = Appends(bare) if bare else None, []
 

@@ -9,6 +9,7 @@ import time
 
 sys.path.insert(0, f"{os.path.dirname(os.path.dirname(os.path.abspath(__file__)))}/tests/lib")
 import clients
+from daemons import memory_of
 from scripts import configuration, wave, write
 from songs import FEW, QUARTER, infos, uri
 
@@ -57,9 +58,8 @@ class Console(clients.Console):
                     sys.exit(f"refused: {request}")
 
     def memory(self, name):
-        """What /proc tells of its memory by this name, in KiB: VmRSS what is resident, VmHWM the most since it began or `forget_peak`."""
-        with open(f"/proc/{self.process.pid}/status", encoding="utf-8") as status:
-            return next(int(line.split()[1]) for line in status if line.startswith(f"{name}:"))
+        """What is resident, or the most of that since it began or `forget_peak`, in KiB."""
+        return memory_of(self.process, name)
 
     def forget_peak(self):
         write(f"/proc/{self.process.pid}/clear_refs", "5")
@@ -90,9 +90,6 @@ class Appends:
         os.fdatasync(self.file)
         self.end += length
         return time.perf_counter_ns() - begun
-
-    def close(self):
-        os.close(self.file)
 
 
 def configure(folder, music):
@@ -126,17 +123,11 @@ def make_music(music):
     os.rename(part, music)
 
 
-def system_seconds():
-    return resource.getrusage(resource.RUSAGE_SELF).ru_stime
-
-
 class Pass:
-    """A plain pass over the songs: lists each folder, opens each file and reads 4 KiB of it. Where lengths are given, an append as
-    long goes behind each 64 files."""
+    """A plain pass over the songs: lists each folder, opens each file and reads 4 KiB of it."""
 
-    def __init__(self, appends=None, lengths=()):
-        self.appends, self.lengths = appends, list(lengths)
-        self.count, self.appended, self.room = 0, 0, [bytearray(4096)]
+    def __init__(self):
+        self.count, self.room = 0, [bytearray(4096)]
 
     def visit(self, folder):
         with os.scandir(folder) as entries:
@@ -151,14 +142,12 @@ class Pass:
         os.readv(file, self.room)
         os.close(file)
         self.count += 1
-        if self.lengths and self.count in (SONGS, self.count // 64 * 64):
-            self.appended += self.appends.time(self.lengths.pop(0))
 
     def time(self, music):
         """The nanoseconds of the pass, and how many of them the system's own calls took."""
-        before, begun = system_seconds(), time.perf_counter_ns()
+        before, begun = resource.getrusage(resource.RUSAGE_SELF).ru_stime, time.perf_counter_ns()
         self.visit(music)
-        taken, system = time.perf_counter_ns() - begun, system_seconds() - before
+        taken, system = time.perf_counter_ns() - begun, resource.getrusage(resource.RUSAGE_SELF).ru_stime - before
         if self.count != SONGS:
             sys.exit("the music has other files than were made: remove it")
         return taken, system * 1e9

@@ -1,5 +1,6 @@
 """The journal that a configuration names, for start and contrib/install."""
 
+import contextlib
 import errno
 import fcntl
 import os
@@ -43,6 +44,12 @@ class Journal:
             if fault.errno not in (errno.EOPNOTSUPP, errno.ENOSYS):
                 raise OSError(fault.errno, fault.strerror, self.paths[0]) from None
         return False
+
+    def drop_from_memory(self):
+        """Has the system drop what it holds of the files: after a sync that failed the disk may have something else."""
+        for path in self.paths:
+            with contextlib.suppress(OSError), open(path, "rb") as file:
+                os.posix_fadvise(file.fileno(), 0, 0, os.POSIX_FADV_DONTNEED)
 
 
 def make_pipe(path):

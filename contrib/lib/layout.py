@@ -6,10 +6,12 @@ import hashlib
 import json
 import os
 import re
+import socket
 import subprocess
 
 CONTRIB = os.path.dirname(os.path.dirname(os.path.abspath(__file__)))
 NAME = "mpd_daemon"
+# The port of the protocol, by which clients look for a player.
 PORT = 6600
 # The program of the first words of a unit's command.
 COMMAND = re.compile(r"^ExecStart=(\S+)", re.MULTILINE)
@@ -19,6 +21,16 @@ VARIABLE = re.compile(r"^Environment=(\w+)=(\S+)$", re.MULTILINE)
 PYTHON = "/usr/bin/python3"
 # The line of a configuration that names the decoder's socket.
 DECODER = re.compile(r"^(# )?decoder = ", re.MULTILINE)
+
+
+def free_port():
+    """The first port from PORT on that is free on the loopback."""
+    for port in range(PORT, PORT + 100):
+        with socket.socket() as probe, contextlib.suppress(OSError):
+            probe.setsockopt(socket.SOL_SOCKET, socket.SO_REUSEADDR, 1)
+            probe.bind(("127.0.0.1", port))
+            return port
+    return PORT
 
 
 @dataclasses.dataclass

@@ -3,6 +3,8 @@
 import os
 import re
 
+from scripts import read
+
 
 def pairs_of(text):
     """The (file, old text, new text) of an edit, in order."""
@@ -22,8 +24,7 @@ class Edit:
 
     def __init__(self, path, code):
         self.path, self.name, self.code = path, os.path.basename(path).removesuffix(".edit"), code
-        with open(path, encoding="utf-8", errors="replace") as file:
-            self.pairs = list(pairs_of(file.read()))
+        self.pairs = list(pairs_of(read(path).decode(errors="replace")))
         found = [self.changed_by(source, old) for source, old, _ in self.pairs]
         self.functions = {it.name: it for some in found for it in some} if all(found) else {}
         # the one function in whose body all of it stands

@@ -12,10 +12,13 @@ is wrong.
 import contextlib
 import hashlib
 import os
+import shutil
 import signal
 import subprocess
 import sys
 import tempfile
+
+from scripts import read, text_of, write
 
 ROOT = os.path.dirname(os.path.dirname(os.path.dirname(os.path.abspath(__file__))))
 # How much is done to make them quick: from 0 on, each level takes longer to build. At 0 the scripts take ten times as long.
@@ -40,8 +43,7 @@ def settings_of_proofs():
 
 def uses():
     """Of each crate of crates.txt, the names of those of them that it uses."""
-    with open(f"{ROOT}/crates.txt", encoding="utf-8") as file:
-        listed = dict(line.strip().split(":", 1) for line in file if line.strip())
+    listed = dict(line.split(":", 1) for line in text_of(f"{ROOT}/crates.txt").splitlines() if line.strip())
     return {name: [it for it in low.split() if it in listed] for name, low in listed.items()}
 
 
@@ -66,6 +68,15 @@ def most(own, beside):
         return found[name]
 
     return {name: of(name) for name in own}
+
+
+def copy_crates(to, names=None, without=("out", "must-fail", "mutants")):
+    """Copies the crates, or these, without what is made of them, and without the wrong bodies that the gate tries, if not said otherwise."""
+    for name in names or uses():
+        shutil.copytree(f"{ROOT}/crates/{name}", f"{to}/crates/{name}", ignore=shutil.ignore_patterns(*without))
+    shutil.copy(f"{ROOT}/HANDLES", to)
+    lines = text_of(f"{ROOT}/crates.txt").splitlines(keepends=True)
+    write(f"{to}/crates.txt", "".join(it for it in lines if not names or it.partition(":")[0] in names))
 
 
 def sources(crate):
@@ -94,8 +105,7 @@ def sum_of_sources(name):
     for crate in crates_of(name):
         paths += sources(crate)
     for path in paths:
-        with open(path, "rb") as file:
-            text = file.read()
+        text = read(path)
         whole.update(f"{os.path.relpath(path, ROOT)} {len(text)}\n".encode() + text)
     return whole.hexdigest()
 
@@ -118,8 +128,7 @@ class Built:
 
     def is_there(self):
         try:
-            with open(f"{self.path}.stamp", encoding="utf-8") as file:
-                return file.read() == self.stamp and os.access(self.path, os.X_OK)
+            return text_of(f"{self.path}.stamp") == self.stamp and os.access(self.path, os.X_OK)
         except OSError:
             return False
 
@@ -128,10 +137,8 @@ class Built:
             os.remove(f"{self.path}.stamp")
 
     def note(self):
-        with open(f"{self.path}.build", "w", encoding="utf-8") as file:
-            file.write(f"{self.how()} build of commit {commit()}, sources {self.stamp[:16]}\n")
-        with open(f"{self.path}.stamp", "w", encoding="utf-8") as file:
-            file.write(self.stamp)
+        write(f"{self.path}.build", f"{self.how()} build of commit {commit()}, sources {self.stamp[:16]}\n")
+        write(f"{self.path}.stamp", self.stamp)
         return True
 
     def how(self):

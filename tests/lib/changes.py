@@ -166,6 +166,22 @@ def listed(state, draw):
     return commands
 
 
+# How long an answer may be, and how long a line is of as many tests as one has.
+MOST_ANSWERED, LINE = 8_388_608, 8_000
+
+
+def much(state, draw):
+    """The commands of a list whose answer is mostly too long, or whose tests are mostly more work than the wide profile lets one do, between
+    changes, of which one may be refused."""
+    volumes = [["setvol", str(it)] for it in draw.sample(range(101), 2)]
+    if draw.random() < 0.2:
+        words = ["count", *["base", "d"] * (LINE // len("base d "))]
+        return [volumes[0], *[words] * draw.randint(200, 230), volumes[1]]
+    words = ["commands"]
+    many = MOST_ANSWERED // len(state.perform(words)) + draw.choice([0, *[1] * 8, 50])
+    return [volumes[0], change(state, draw), *[words] * many, draw.choice([["playid", "999999"], ["ping"]]), volumes[1]]
+
+
 def change(state, draw):
     """The words of a change, which may leave the state as it is."""
     kinds = {it: often for it, often in KINDS.items() if len(state.queue) < MOST_ENTRIES or it not in (adding, finding, loading)}

@@ -121,6 +121,38 @@ class Client:
         """The first of them; None where there is none."""
         return next(iter(self.values(request, key)), None)
 
+    def bytes(self, count):
+        """The next bytes, so many."""
+        while len(self.unread) < count:
+            if not (piece := self.piece()):
+                raise Failure(f"the connection ended behind {self.unread[-80:]}")
+            self.unread += piece
+        found, self.unread = self.unread[:count], self.unread[count:]
+        return found
+
+    def chunk(self, request=None):
+        """The bytes of an answer with a chunk of a picture, to a request if it is sent now, and the values of its lines by their keys."""
+        self.send(f"{request}\n" if request else "")
+        told = {}
+        while "binary" not in told:
+            key, _, value = (self.line() or b"").decode().partition(": ")
+            if key in ("OK", "") or key.startswith("ACK"):
+                raise Failure(f"no chunk: {key} {value}")
+            told[key] = value
+        found, end = self.bytes(int(told["binary"])), self.bytes(4)
+        if end != b"\nOK\n":
+            raise Failure(f"a chunk ends with {end}")
+        return found, told
+
+    def picture(self, command, uri):
+        """A picture, the length of its longest chunk, and its type."""
+        whole, longest, told = bytearray(), 0, {"size": 1}
+        while len(whole) < int(told["size"]):
+            piece, told = self.chunk(f'{command} "{uri}" {len(whole)}')
+            whole += piece
+            longest = max(longest, len(piece))
+        return bytes(whole), longest, told.get("type")
+
     def settle(self):
         """Waits for the end of a scan."""
         wait_for("the end of the scan", lambda: self.value("status", "updating_db") is None)
@@ -130,6 +162,26 @@ class Client:
         while self.line() is not None:
             pass
         return not self.unread
+
+
+def listens(address):
+    """Whether somebody takes clients there."""
+    try:
+        Client(address, greeted=False).socket.close()
+    except OSError:
+        return False
+    return True
+
+
+def wait_to_listen(process, address, said=lambda: ""):
+    """Waits until a program that has begun takes clients there; a finding where it ends before, with what it said."""
+
+    def is_there():
+        if process.poll() is not None:
+            raise Failure(f"it ended with {process.returncode}: {said()}")
+        return listens(address)
+
+    wait_for("a program that listens", is_there)
 
 
 class Console(Client):

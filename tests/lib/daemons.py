@@ -10,7 +10,7 @@ import sys
 import threading
 import time
 
-from clients import LIMIT, Client, Console, wait_for
+from clients import LIMIT, Client, Console, wait_for, wait_to_listen
 from journal_files import Journal
 from scripts import Failure, configuration, write
 from waves import wave_of
@@ -85,7 +85,7 @@ class Daemon:
     def start(self, *limits, **how):
         """Begins it, and waits until it listens."""
         self.begin(*limits, **how)
-        wait_for("a daemon that listens", self.is_listening)
+        wait_to_listen(self.process, self.path, lambda: self.lines)
         return self
 
     def begin(self, limits=(), stdout=subprocess.DEVNULL, stderr=subprocess.PIPE, settings=None, ended_by=(), umask=-1):
@@ -109,16 +109,6 @@ class Daemon:
         """Takes what it writes to standard error."""
         with stream as lines:
             self.lines.extend(line.decode().rstrip("\n") for line in lines or ())
-
-    def is_listening(self):
-        if self.process.poll() is not None:
-            raise Failure(f"it ended with {self.process.returncode}: {self.lines}")
-        try:
-            with socket.socket(socket.AF_UNIX) as probe:
-                probe.connect(self.path)
-        except OSError:
-            return False
-        return True
 
     def console(self, greeted=True, settings=None, **how):
         """A client of a console in its place."""
@@ -165,6 +155,21 @@ class Daemon:
         if self.process and self.process.poll() is None:
             self.process.kill()
             self.process.wait()
+
+
+def open_files(process):
+    """The paths of the files that it has open."""
+    found, folder = [], f"/proc/{process.pid}/fd"
+    for it in os.listdir(folder):
+        with contextlib.suppress(FileNotFoundError):  # It is closed meanwhile.
+            found.append(os.readlink(f"{folder}/{it}"))
+    return found
+
+
+def memory_of(process, name="VmRSS"):
+    """What /proc tells of its memory by this name, in KiB: VmRSS what is resident, VmHWM the most since it began."""
+    with open(f"/proc/{process.pid}/status", encoding="utf-8") as status:
+        return next(int(line.split()[1]) for line in status if line.startswith(f"{name}:"))
 
 
 def serving(program, folder, **settings):

@@ -14,13 +14,13 @@ import time
 import decoders
 import under
 from daemons import Daemon, check, make_pipe, put_song, update, wait_for
+from decoders import NOT_A_SONG, OK
 from homes import script_of
 from music_rows import WORDS, id3, lines_of
 from scripts import write
 from sounds import LONG, MOST_FRAMES, Recorded, Song, check_front, pieces_of, play_to_the_end, runs_of, sound_of
 from waves import chunk, wave_of, with_picture
 
-OK, NOT_A_SONG, FAILED = 0, 1, 2
 OPEN, READ = 1, 2
 SONG, TITLE = Song("d/a.mp3", 44_100, 1, WORDS), ["Title: Dawn"]
 WAVE = wave_of(WORDS, 44_100, more=chunk("id3 ", id3(TIT2="Dawn")))
@@ -260,7 +260,7 @@ def decoder_that_fails_at_a_picture(program, folder):
     """However it fails as a picture is read, that is refused within four seconds, nobody else waits, and it is told once the decoder is
     well."""
     picture = bytes(range(256)) * 400
-    words = [f"size: {len(picture)}", "type: image/png", "binary: 8192"]
+    wanted = picture[:8192], {"size": str(len(picture)), "type": "image/png", "binary": "8192"}
     with decoded(program, folder, {"cover.mp3": with_picture(WORDS, picture)}, **{"stock_clients:": "true"}) as (daemon, decoder, client):
         with daemon.client() as asking:
             for what, (kind, done, _) in FAULTS.items():
@@ -271,16 +271,7 @@ def decoder_that_fails_at_a_picture(program, folder):
                 check(what, asking.answer(), ["ACK [5@0] {readpicture} the picture could not be read"])
                 check(f"{what}: soon", time.monotonic() - begun < MOST_SECONDS, True)
                 decoder.fault = None, None
-                asking.send("readpicture cover.mp3 0\n")
-                check("its head", [asking.line().decode() for _ in words], words)
-                wait_for("a chunk", lambda: len(asking.unread) >= 8192 + 4 or bool(take_more(asking)))
-                check("its bytes", asking.unread, picture[:8192] + b"\nOK\n")
-                asking.unread = b""
-
-
-def take_more(client):
-    """Takes what comes next; nothing, so that a wait goes on."""
-    client.unread += client.piece()
+                check("a chunk", asking.chunk("readpicture cover.mp3 0"), wanted)
 
 
 def decoder_that_accepts_nobody(program, folder):

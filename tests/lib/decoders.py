@@ -9,8 +9,8 @@ import struct
 import subprocess
 import threading
 
-import under
-from daemons import LIMIT, ran_well, wait_for
+from clients import LIMIT, wait_to_listen
+from daemons import ran_well
 from scripts import Failure
 
 ROOT = os.path.dirname(os.path.dirname(os.path.dirname(os.path.abspath(__file__))))
@@ -20,40 +20,44 @@ PYTHON = "/usr/bin/python3"
 OK, NOT_A_SONG, FAILED = 0, 1, 2
 PIECE = 65_536
 
-# Tags files, by a line of JSON for each: its path, texts by the names of its format, and a PNG of the front and of the back.
+# Tags files, by a line of JSON for each: its path, pairs of a name of its format and texts, a PNG of the front and one of the back, or none,
+# and of ID3v2 the encoding and the version.
 TAGGING = """\
 import base64, json, sys
 import mutagen
 from mutagen import apev2, flac, id3, mp4
-for path, tags, front, back in map(json.loads, sys.stdin):
-    front, back = base64.b64decode(front), base64.b64decode(back)
+for path, tags, images, encoding, version in map(json.loads, sys.stdin):
+    images = [base64.b64decode(it) for it in images]
     file = mutagen.File(path)
     if file.tags is None:
         file.add_tags()
     kind = type(file.tags).__name__
-    for name, texts in tags.items():
+    for name, texts in tags:
         if "ID3" in kind:
             name, _, more = name.partition(":")
             how = {"TXXX": {"desc": more}, "COMM": {"desc": "", "lang": "eng"}}.get(name, {})
-            file.tags.add(getattr(id3, name)(encoding=3, text=texts, **how))
+            identifier = id3.UFID(owner="http://musicbrainz.org", data=b"f27ec8db-af05-4f36-916e-3d57f91ecf5e")
+            file.tags.add(identifier if name == "UFID" else getattr(id3, name)(encoding=encoding, text=texts, **how))
         elif kind == "MP4Tags":
             file.tags[name] = [tuple(it) if isinstance(it, list) else it.encode() if name[0] == "-" else it for it in texts]
         else:
             file.tags[name] = texts
     pictures = []
-    for number, data in (4, back), (3, front):
+    for number, data in [*zip((3, 4), images)][::-1]:
         picture = flac.Picture()
         picture.type, picture.mime, picture.data = number, "image/png", data
         pictures.append(picture)
         if "ID3" in kind:
             file.tags.add(id3.APIC(encoding=3, mime="image/png", type=number, desc=str(number), data=data))
-    if kind == "MP4Tags":
-        file.tags["covr"] = [mp4.MP4Cover(it, mp4.MP4Cover.FORMAT_PNG) for it in (front, back)]
-    elif kind == "APEv2":
-        file.tags["Cover Art (Front)"] = apev2.APEValue(b"front.png\\0" + front, apev2.BINARY)
-    elif "Comment" in kind or kind.startswith("Ogg"):
+    if images and kind == "MP4Tags":
+        file.tags["covr"] = [mp4.MP4Cover(it, mp4.MP4Cover.FORMAT_PNG) for it in images]
+    elif images and kind == "APEv2":
+        file.tags["Cover Art (Front)"] = apev2.APEValue(b"front.png\\0" + images[0], apev2.BINARY)
+    elif images and ("Comment" in kind or kind.startswith("Ogg")):
         file.tags["metadata_block_picture"] = [base64.b64encode(it.write()).decode() for it in pictures]
-    file.save()
+    if version == 3:
+        file.tags.update_to_v23()
+    file.save(**({"v2_version": version} if "ID3" in kind else {}))
 """
 # Reads a tag, and tells its texts by the names of its frames, and its pictures, in JSON.
 READING = """\
@@ -78,8 +82,13 @@ def by_python(script, given=b""):
     return ran_well(PYTHON, "-c", script, given=given)
 
 
+def tag_by(python, lines):
+    """Has this Python tag files."""
+    ran_well(python, "-c", TAGGING, given="".join(json.dumps(it) + "\n" for it in lines).encode())
+
+
 def tag_files(lines):
-    by_python(TAGGING, "".join(json.dumps(it) + "\n" for it in lines).encode())
+    tag_by(PYTHON, ([path, [*texts.items()], pictures, 3, 4] for path, texts, *pictures in lines))
 
 
 def read_tag(data):
@@ -152,13 +161,6 @@ class Client:
         return True
 
 
-def listens(path):
-    """Whether a decoder listens there."""
-    with contextlib.suppress(OSError), Client(path):
-        return True
-    return False
-
-
 class Decoder:
     """A decoder over a folder of music."""
 
@@ -172,18 +174,12 @@ class Decoder:
         self.reading.start()
 
     def __enter__(self):
-        wait_for("a decoder that listens", self.is_listening, under.seconds(60))
+        wait_to_listen(self.process, self.path, lambda: "".join(self.said)[-300:])
         return self
 
     def __exit__(self, *_):
         self.process.terminate()
         self.process.wait(LIMIT)
-
-    def is_listening(self):
-        if self.process.poll() is not None:
-            self.reading.join(LIMIT)
-            raise Failure(f"the decoder ended with {self.process.returncode}: {''.join(self.said)[-300:]}")
-        return listens(self.path)
 
     def client(self):
         return Client(self.path)

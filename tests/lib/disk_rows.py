@@ -5,7 +5,7 @@ import os
 import preload
 from daemons import Daemon, check, put_song, update, wait_for
 from log_rows import tally, told
-from scripts import write
+from scripts import text_of, write
 
 RAMP = list(range(0, 4_000, 4))
 # Songs in the folder in which a job waits, and at which look at them it does: in the middle of its listing, or where the first is opened.
@@ -44,8 +44,7 @@ class Slow:
         write(f"{self.folder}/wait", b"%d" % number)
         self.client.do("update")
         wait_for("a look that waits", lambda: os.path.exists(f"{self.folder}/waiting"))
-        with open(f"{self.folder}/waiting", encoding="utf-8") as file:
-            change(f"{self.folder}/{file.read()}")
+        change(f"{self.folder}/{text_of(f'{self.folder}/waiting')}")
         for name in "waiting", "wait":
             os.remove(f"{self.folder}/{name}")
         self.client.settle()

@@ -37,7 +37,7 @@ import drives
 import fuses
 import preload
 import waves
-from scripts import Failure, whole
+from scripts import Failure, text_of, whole
 
 CORE, TAKES, PIECE = b"make_core", b"takes 3", b"pieces 1"
 SEND = re.compile(rb"(\d+)(>-?)(?: (.*))?", re.DOTALL)
@@ -76,8 +76,7 @@ class Script:
     """A script, read."""
 
     def __init__(self, path):
-        with open(path, encoding="utf-8") as file:
-            lines = list(enumerate(file.read().split("\n"), 1))
+        lines = list(enumerate(text_of(path).split("\n"), 1))
         self.steps, self.fused, self.refused, self.is_cut, self.memory = [], fuses.Fused(), 0, False, None
         self.waves, names = {}, {}
         # Those to which a line belongs.

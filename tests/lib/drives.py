@@ -7,6 +7,7 @@ import subprocess
 import tempfile
 import threading
 
+import daemons
 import journal_files
 import preload
 import scripts
@@ -101,8 +102,7 @@ class Drive:
 
     def peak(self):
         """The most memory that it has held, in bytes."""
-        with open(f"/proc/{self.process.pid}/status", encoding="utf-8") as status:
-            return next(1024 * int(line.split()[1]) for line in status if line.startswith("VmHWM:"))
+        return 1024 * daemons.memory_of(self.process, "VmHWM")
 
     def finish(self):
         """Its input ends; it must end then, and have printed nothing more."""
@@ -190,8 +190,4 @@ def filled(files, left, volume, folder):
     for path, content in zip(paths, files):
         scripts.write(path, content)
     journal_files.Journal(*paths).fill(left, volume)
-    found = []
-    for path in paths:
-        with open(path, "rb") as file:
-            found.append(file.read())
-    return found
+    return [*map(scripts.read, paths)]

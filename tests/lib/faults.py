@@ -26,8 +26,8 @@ import tempfile
 
 import crashes
 import preload
-from clients import GREETING, is_whole
-from daemons import LIMIT, Daemon, wait_for
+from clients import GREETING, is_whole, wait_for, wait_to_listen
+from daemons import LIMIT, Daemon
 from scripts import Failure, read
 
 # So many requests are sent at least, and so many records left before a checkpoint.
@@ -81,7 +81,7 @@ class Served:
 
     def connect(self):
         with contextlib.suppress(OSError, Failure):
-            wait_for("a daemon that listens or ends", self.daemon.is_listening)
+            wait_to_listen(self.process, self.daemon.path)
             self.client = self.daemon.client()
             return self.client
         return None

@@ -6,7 +6,8 @@ import shutil
 import subprocess
 import sys
 
-from daemons import wait_for
+from clients import wait_for
+from scripts import write
 
 # How programs for aarch64 begin, and which of these bits count.
 HEAD = r"\x7fELF\x02\x01\x01" + r"\x00" * 9 + r"\x02\x00\xb7\x00"
@@ -56,8 +57,7 @@ class Root:
         ours = os.readlink("/proc/self/ns/user")
         wait_for("a namespace", lambda: os.readlink(f"/proc/{child.pid}/ns/user") != ours)
         for kind in ("uid", "gid"):
-            with open(f"/proc/{child.pid}/{kind}_map", "w", encoding="ascii") as file:
-                file.write("0 0 65536\n")
+            write(f"/proc/{child.pid}/{kind}_map", "0 0 65536\n")
         child.stdin.write(b"\n")
         child.stdin.close()
         return child

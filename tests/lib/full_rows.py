@@ -132,3 +132,30 @@ def begins_without_room(program, folder):
         daemon.kill()
         with daemon.start().client() as client:
             check("behind it", client.ask("setvol 2")[-1], "OK")
+
+
+def room_is_given_back(program, folder):
+    """Before a checkpoint the file in use gives its room back: the older one has what it says, and no more."""
+    with knowing(program, folder, SONGS, **{"stock_clients:": "true"}) as daemon:
+        with daemon.client() as client:
+            client.do("setvol 1")
+        daemon.kill()
+        daemon.journal().fill(1, 0)
+        daemon.start()
+        with daemon.client() as client:
+            client.do("setvol 2", "setvol 3", "setvol 4")
+            sizes = [os.path.getsize(f"{folder}/{name}") for name in "ab"]
+            check("the lengths", [min(sizes) < 200_000, longest(folder) > 8_388_628], [True, True])
+
+
+def console_without_room(program, folder):
+    """So it is for a console's client: its change is refused, and it is served on."""
+    with knowing(program, folder, SONGS, **{"stock_clients:": "true"}) as daemon:
+        daemon.kill()
+        with daemon.console(restore_signals=False) as client:
+            client.do("setvol 1")
+            with limited(client.process, resource.RLIMIT_FSIZE, longest(folder)):
+                fill(client)
+                check("a change", client.ask("setvol 2"), ["ACK [52@0] {setvol} disk full"])
+            client.do("setvol 3")
+            check("its end", client.end(), 0)

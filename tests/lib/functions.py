@@ -9,6 +9,8 @@ import os
 import re
 from typing import NamedTuple
 
+import scripts
+
 FUNCTION = re.compile(r"(?m)^( *)(?:pub(?:\([^)]*\))? )?(?:const )?(?:unsafe )?fn (\w+)")
 TYPE = re.compile(r"(?m)^(?:pub(?:\([^)]*\))? )?(?:unsafe )?(impl|trait)\b([^{]*)\{")
 DECLARED = re.compile(r"(?m)^(?:pub(?:\([^)]*\))? )?(?:struct|enum|trait|union) (\w+)")
@@ -139,5 +141,4 @@ class Code:
 
 
 def text_of(folder, path):
-    with open(f"{folder}/{path}", encoding="utf-8") as file:
-        return file.read()
+    return scripts.text_of(f"{folder}/{path}")

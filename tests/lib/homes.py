@@ -8,7 +8,8 @@ import signal
 import stat
 import subprocess
 
-from daemons import LIMIT, Client, free_port, wait_for
+from clients import LIMIT, Client, wait_to_listen
+from daemons import free_port
 from scripts import Failure, write
 from scripts import read as content
 
@@ -72,17 +73,8 @@ class Service:
         how = {"stdin": subprocess.DEVNULL, "stdout": subprocess.DEVNULL, "stderr": subprocess.PIPE, "umask": int(said["UMask"][0], 8)}
         self.process = subprocess.Popen(words, cwd=folder, **how)
 
-    def is_listening(self):
-        if self.process.poll() is not None:
-            raise Failure(f"it ended with {self.process.returncode}: {self.process.stderr.read()}")
-        try:
-            self.home.client().socket.close()
-        except OSError:
-            return False
-        return True
-
     def __enter__(self):
-        wait_for("a daemon that listens", self.is_listening)
+        wait_to_listen(self.process, ("127.0.0.1", self.home.port), self.process.stderr.read)
         return self.home.client()
 
     def __exit__(self, *_):

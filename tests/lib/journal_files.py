@@ -1,9 +1,12 @@
 """The two files of a journal, as one who looks at them sees them."""
 
 from layouts import LAYOUT_AT, body
+from scripts import read, write_at
 
 # A checkpoint is made before the next event where so many records stand in the journal's file.
 RECORDS = 4096
+# So many bytes of room are made behind the last commit byte of a file of layout 3 that has none.
+ROOM = 8_388_628 + 65_536
 # What a program says on standard error that brought a journal of layout 1 to layout 2.
 MIGRATED = b"the journal was brought to layout 2: an older program can't read it any more\n"
 
@@ -19,8 +22,7 @@ def records_of(content):
 
 def appended(path):
     """How many bytes each record of a journal file took."""
-    with open(path, "rb") as file:
-        return records_of(file.read())[0]
+    return records_of(read(path))[0]
 
 
 class Journal:
@@ -51,9 +53,7 @@ class Journal:
 
     def make_old(self):
         """Gives the file in use layout 1, as an older build would have written it, where it has no value that layout 1 hasn't."""
-        with open(self.in_use(), "r+b") as file:
-            file.seek(LAYOUT_AT)
-            file.write(b"\x01")
+        write_at(self.in_use(), LAYOUT_AT, b"\x01")
 
     def records(self):
         """How many records stand since the last checkpoint."""

@@ -5,6 +5,7 @@ import resource
 import under
 from clients import in_one_list
 from daemons import check, knowing, limited
+from scripts import read
 
 # The limit, in bytes, and how many command lists are kept under it, which are longer together. For a thread's first allocation the C library
 # tries 64 MiB at once, and lets go of them: beside that a list must find memory.
@@ -48,8 +49,7 @@ def opens_what_it_wrote(program, folder):
 
 def used(process):
     """How many bytes of addresses a process uses."""
-    with open(f"/proc/{process.pid}/statm", encoding="ascii") as file:
-        return int(file.read().split()[0]) * resource.getpagesize()
+    return int(read(f"/proc/{process.pid}/statm").split()[0]) * resource.getpagesize()
 
 
 def makes_a_checkpoint_without_memory(program, folder):

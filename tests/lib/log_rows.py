@@ -9,7 +9,7 @@ import preload
 import under
 from daemons import Daemon, check, knowing, put_song, ran, refused, serving, update, wait_for
 from journal_files import RECORDS
-from scripts import Failure, write
+from scripts import Failure, write, write_at
 
 RAMP = list(range(0, 4_000, 4))
 # A web of folders, each with so many links to the next: there are more ways through it than any job could go.
@@ -50,6 +50,11 @@ def tally(job, songs, new=0, changed=0, gone=0, left=NONE, folders=0, files=0):
     """What is told of a job that has ended."""
     found = f"{songs} songs, {new} of them new, {changed} changed, {gone} gone"
     return f"update {job}: {found}; left out: {left}; not read: {folders} folders, {files} files"
+
+
+def tally_wide(job, songs, unchanged=0, others=0, **counts):
+    """The same with `stock_clients`."""
+    return f"{tally(job, songs, **counts)}; {unchanged} unchanged, {others} other files"
 
 
 def put_no_songs(folder):
@@ -133,8 +138,8 @@ def job_that_opens_what_changed(program, folder):
         wait_for("its line", lambda: told(daemon, "update 4: "))
         daemon.kill(signal.SIGTERM)
         left = "1 not WAVE, 0 of another format, 0 broken (debug = true names them)"
-        counts = [{"new": 3}, {}, {}, {"new": 1, "changed": 1, "gone": 1, "folders": 1}]
-        check("the log", told(daemon, "update "), [tally(job, 3, left=left, **it) for job, it in enumerate(counts, 1)])
+        counts = [{"new": 3}, {"unchanged": 3}, {}, {"unchanged": 1, "new": 1, "changed": 1, "gone": 1, "folders": 1}]
+        check("the log", told(daemon, "update "), [tally_wide(job, 3, left=left, **it) for job, it in enumerate(counts, 1)])
 
 
 def empty_mount_point(program, folder):
@@ -207,18 +212,40 @@ def files_left_out(program, folder):
         check("the tally", told(daemon, "update "), [tally(1, 1, new=1, left="1 not WAVE, 2 of another format, 1 broken")])
 
 
+def names_left_out(program, folder):
+    """With `stock_clients` a name that is no UTF-8, or has a control character, costs that file alone: it is counted, and named escaped, and so
+    is a path that is too long or too deep. Of what is left out for other reasons the first ten are named too, and other files are counted."""
+    with serving(program, folder, **{"stock_clients:": "true"}) as daemon, daemon.client() as client:
+        put_song(daemon, "d/a.wav", RAMP)
+        for name in b"caf\xe9.wav", b"tab\tx.wav", b"cover.jpg", b"wav":
+            write(os.fsencode(f"{folder}/music/d/") + name, b"")
+        deep, long = "/".join("e" * 33), "/".join(["f" * 200] * 5 + ["g" * 18 + ".wav"])
+        for path in deep, os.path.dirname(long):
+            os.makedirs(f"{folder}/music/{path}")
+        # A folder too deep and a path too long by three bytes; one as long as it may be is read, and of what is no song none is told.
+        for path in f"{deep}/a.wav", long, long.replace("ggg", "", 1), long.replace(".wav", ".jpg"):
+            write(f"{folder}/music/{path}", b"no song")
+        for number in range(12):
+            write(f"{folder}/music/{number:02}.wav", b"no song")
+        update(client)
+        wait_for("its line", lambda: told(daemon, "update 1: "))
+        daemon.kill(signal.SIGTERM)
+        names = ["d/caf\\xe9.wav: its name is no UTF-8", "d/tab\\x09x.wav: its name has a control character"]
+        names += [f"{deep}: 32 folders stand over it", f"{long}: its path has more than 1,024 bytes"]
+        wanted = sorted(f"left out: {it}" for it in [*(f"{number:02}.wav: not a WAVE file" for number in range(10)), *names])
+        check("the log", sorted(told(daemon, "left out")), wanted)
+        left = "13 not WAVE, 0 of another format, 0 broken, 4 by their names (debug = true names them)"
+        check("the tally", told(daemon, "update "), [tally_wide(1, 1, others=3, new=1, left=left)])
+
+
 def refuse_later(counts, later):
     """So many allocations from now on one is refused."""
-    with open(counts, "r+b") as file:
-        file.seek(16)
-        file.write((preload.counts(counts)[0] + later).to_bytes(8, "little"))
+    write_at(counts, 16, (preload.counts(counts)[0] + later).to_bytes(8, "little"))
 
 
 def refuse_none(counts):
     """No allocation is refused from now on."""
-    with open(counts, "r+b") as file:
-        file.seek(16)
-        file.write(bytes(8))
+    write_at(counts, 16, bytes(8))
 
 
 def line_of(daemon, job):
@@ -377,12 +404,12 @@ def change(daemon, *volumes):
 
 
 def is_served(daemon, volume, *lines):
-    """A start that says these lines, and has this volume."""
+    """A start that says these lines, whether or not it takes a second, and has this volume."""
     daemon.lines = []
     with daemon.start():
         daemon.has(volume=str(volume))
         daemon.kill(signal.SIGTERM)
-    check("standard error", daemon.lines, list(lines))
+    check("standard error", [it for it in daemon.lines if "the journal was opened in " not in it], list(lines))
 
 
 def journal_file_missing(program, folder):

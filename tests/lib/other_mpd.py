@@ -9,11 +9,12 @@ import socket
 import subprocess
 import threading
 
-from daemons import LIMIT, Client, free_port, update, wait_for
+from clients import LIMIT, Client, wait_to_listen
+from daemons import free_port, update
 from scripts import Failure, write
 
 CONFIGURATION = """\
-music_directory "{0}/music"
+music_directory "{2}"
 playlist_directory "{0}/playlists"
 db_file "{0}/database"
 sticker_file "{0}/stickers"
@@ -26,7 +27,7 @@ max_playlist_length "65536"
 audio_output {{
   type "null"
   name "nothing"
-  mixer_type "null"
+  mixer_type "{3}"
 }}
 """
 
@@ -35,20 +36,20 @@ class RealMpd:
     """A running MPD of version 0.23 in a folder of its own with music/, playlists/ and stickers, at a port and at `socket`, with further lines
     in its configuration."""
 
-    def __init__(self, path, folder, more=""):
-        self.path, self.folder, self.port, self.process = path, folder, free_port(), None
-        for it in ("music", "playlists"):
-            os.makedirs(f"{folder}/{it}", exist_ok=True)
+    def __init__(self, path, folder, more="", music=None, mixer="null"):
+        self.words, self.folder = [path, "--no-daemon", "--stderr", f"{folder}/mpd.conf"], folder
+        self.port, self.process, self.settings = free_port(), None, (music or f"{folder}/music", mixer)
+        for it in (self.settings[0], f"{folder}/playlists"):
+            os.makedirs(it, exist_ok=True)
         self.configure(more)
 
     def configure(self, more):
-        write(f"{self.folder}/mpd.conf", CONFIGURATION.format(self.folder, self.port) + more)
+        write(f"{self.folder}/mpd.conf", CONFIGURATION.format(self.folder, self.port, *self.settings) + more)
 
     def __enter__(self):
         with open(f"{self.folder}/mpd.log", "wb") as log:
-            how = {"stdin": subprocess.DEVNULL, "stdout": log, "stderr": log}
-            self.process = subprocess.Popen([self.path, "--no-daemon", "--stderr", f"{self.folder}/mpd.conf"], **how)
-        wait_for("an MPD that listens", self.is_listening)
+            self.process = subprocess.Popen(self.words, stdin=subprocess.DEVNULL, stdout=log, stderr=log)
+        wait_to_listen(self.process, ("127.0.0.1", self.port))
         return self
 
     def __exit__(self, *_):
@@ -57,15 +58,6 @@ class RealMpd:
             self.process.wait(LIMIT)
         except subprocess.TimeoutExpired:
             self.process.kill()
-
-    def is_listening(self):
-        if self.process.poll() is not None:
-            raise Failure(f"MPD ended with {self.process.returncode}")
-        try:
-            socket.create_connection(("127.0.0.1", self.port)).close()
-        except OSError:
-            return False
-        return True
 
     @property
     def place(self):

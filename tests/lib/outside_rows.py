@@ -1,6 +1,7 @@
 """Rows of tests/serve: what stands around the daemon, as the limits of its process, a terminal, another daemon at its pipe, or a drive that
 hangs; and journal files that have lost bytes, or have more than they need."""
 
+import contextlib
 import fcntl
 import os
 import resource
@@ -11,7 +12,7 @@ import time
 import preload
 from daemons import Daemon, check, knowing, make_pipe, put_song, refused, update, wait_for
 from log_rows import EMPTIED, change, is_served, told
-from scripts import write
+from scripts import read, write, write_at
 from stock_players import time_of
 
 RAMP = list(range(-20_000, 20_000, 4))
@@ -149,6 +150,39 @@ def scan_that_stands_in_a_call(program, folder):
     check("lines", len(told(daemon, "the scan has waited", "the player has waited")), 1)
 
 
+def player_that_stands_in_a_call(program, folder):
+    """So it is told of the player."""
+    with knowing(program, folder, {"hangs.wav": [0] * 100}) as daemon:
+        daemon.kill(signal.SIGTERM)
+        daemon.start(settings={"LD_PRELOAD": preload.library("hang_calls", folder)})
+        with daemon.client() as client:
+            client.do("add hangs.wav", "play")
+            wait_for("a line", lambda: told(daemon, "the player has waited for ten seconds for one call of the system for the music"))
+            daemon.kill(signal.SIGTERM)
+        check("lines", len(told(daemon, "the scan has waited", "the player has waited")), 1)
+
+
+def output_without_a_reader(program, folder):
+    """With `stock_clients` it is told behind ten seconds that nobody reads the pipe, as long as it is so: once in the log, and in `status`."""
+    make_pipe(folder)
+    with knowing(program, folder, {"a.wav": [0] * 441_000}, **{"stock_clients:": "true"}) as daemon, daemon.client() as client:
+        client.do("add a.wav", "play")
+        wait_for("the error", lambda: client.value("status", "error") is not None)
+        check("the error", client.value("status", "error"), "nobody reads the output")
+        check("the state", client.value("status", "state"), "play")
+        reader = os.open(f"{folder}/sound", os.O_RDONLY | os.O_NONBLOCK)
+        try:
+            def error():
+                with contextlib.suppress(BlockingIOError):
+                    os.read(reader, 1 << 16)
+                return client.value("status", "error")
+
+            wait_for("the end of it", lambda: error() is None)
+        finally:
+            os.close(reader)
+        check("lines", len(told(daemon, "nobody has read the output for ten seconds")), 1)
+
+
 def picture_that_stands_in_a_call(program, folder):
     """So it is told of the reader of pictures, while others are served. Behind twenty seconds whoever asked is told that it couldn't be
     read, so that those who have left keep no place; and it is told what the end waits for."""
@@ -202,11 +236,22 @@ def slow_disk(program, folder):
     check("behind it", len(told(daemon, "the journal was opened in ")), 1)
 
 
+def slow_start_brings_a_checkpoint(program, folder):
+    """With `stock_clients` a start that took five seconds brings a checkpoint, so that the next one needn't take so long."""
+    with knowing(program, folder, {"a.wav": [0] * 100}, **{"stock_clients:": "true"}) as daemon:
+        journal = daemon.journal()
+        first = journal.generation(journal.in_use())
+        daemon.kill(signal.SIGTERM)
+        daemon.start(settings={"LD_PRELOAD": preload.library("slow_calls", folder), "SLOW": str(SLOW)})
+        with daemon.client() as client:
+            client.do("ping")
+        check("generations", journal.generation(journal.in_use()) - first, 1)
+
+
 def empty(path):
     """What a file has; it has nothing then."""
-    with open(path, "r+b") as file:
-        content = file.read()
-        file.truncate(0)
+    content = read(path)
+    os.truncate(path, 0)
     return content
 
 
@@ -247,8 +292,7 @@ def journal_file_emptied(program, folder):
     there = "new: File exists (os error 17)"
     check("salvage again", daemon.outcome("look", "--salvage", "new"), (3, [], [there, "disk fault"]))
     # The other one shut, as by a checkpoint that was cut short.
-    with open(f"{folder}/b", "r+b") as file:
-        file.write(b"\0")
+    write_at(f"{folder}/b", 0, b"\0")
     refused(program, folder, {"output": "-"}, 2, [f"a: {IN_USE}", "journal refused: 4"])
     write(f"{folder}/a", kept)
     is_served(daemon, 53)
@@ -265,9 +309,7 @@ def damaged_record(program, folder):
     change(daemon, 40, 41, 42)
     # The third record has seven bytes, as each before it: its op is another.
     third = end + 2 * 7
-    with open(f"{folder}/a", "r+b") as file:
-        file.seek(third + 5)
-        file.write(b"\xff")
+    write_at(f"{folder}/a", third + 5, b"\xff")
     damaged = f"a, b: damaged at byte {third} of the file in use"
     check("look", daemon.outcome("look"), (4, [], [damaged, "journal not whole"]))
     printed = [f"new: 2 records of a, which is damaged at byte {third}", "put it in the place of a"]

@@ -15,6 +15,7 @@ import time
 from typing import NamedTuple
 
 import builds
+from scripts import text_of
 
 TESTS = os.path.dirname(os.path.dirname(os.path.abspath(__file__)))
 COUNTS = re.compile(r"(\d+) passed, (\d+) failed")
@@ -110,9 +111,8 @@ def tests():
     """The tests of the crates that have any as parts, for where `rt ci` has not run them."""
     crates, names = f"{os.path.dirname(TESTS)}/crates", set()
     for path in glob.glob(f"{crates}/*/src/**/*.rt", recursive=True):
-        with open(path, encoding="utf-8") as file:
-            if "#[test]" in file.read():
-                names.add(os.path.relpath(path, crates).split("/")[0])
+        if "#[test]" in text_of(path):
+            names.add(os.path.relpath(path, crates).split("/")[0])
     return [Part(it, f"lib/builds.py --tests {it}") for it in sorted(names)]
 
 

@@ -2,7 +2,6 @@
 one behind the other."""
 
 import os
-import random
 import signal
 
 import crashes
@@ -138,23 +137,3 @@ def place_of_each_second(program, folder):
                 daemon.kill()
             check(f"records, {every}", made(), 1 + times)
             has(daemon, f"behind a life with {every}", "pause", "0", player.shown(times * second * 1000 // rate))
-
-
-def same_random_round(program, folder):
-    """A random round goes on behind kills: what comes next is what was told, no song comes twice, and those before come back."""
-    os.makedirs(folder)
-    with crashes.full_pipe(f"{folder}/sound"):
-        daemon = crashes.prepared(program, folder, is_wide=True, resume="playing")
-        front = crashes.Front(crashes.fresh(is_wide=True), random.Random())
-        ask = lambda client, *lines: front.exchange(client, *(front.request([it.split()]) for it in lines))
-        with daemon.start(), daemon.client() as client:
-            front.scan(client, crashes.Music(folder, True))
-            ask(client, "add /", "add /", "random 1", "play", "next", "next")
-            daemon.kill()
-        for line in ("next", "previous", "previous", *["next"] * 8):
-            front = crashes.Front(front.states[-1].restarted(True), random.Random())
-            with daemon.start(), daemon.client() as client:
-                ask(client, "status", line, "status")
-                daemon.kill()
-    state = front.states[-1]
-    check("the round", (len(state.played), sorted(state.played)), (10, list(range(1, 11))))

@@ -380,8 +380,16 @@ class Player(readings.Readable):
     def rescan(self, uri=""):
         return self.update(uri, True)
 
+    def spared(self, songs):
+        """These songs, and with the wide profile the one that plays or is in pause, which a scan doesn't drop."""
+        if not self.is_wide or self.state == STOP:
+            return songs
+        uri = self.queue[self.place(self.current)].uri
+        return songs if uri in songs else {**songs, uri: self.songs[uri]}
+
     def batch(self, songs):
         """A batch of a scan finds these songs: those that are gone leave the queue and take their stickers along."""
+        songs = self.spared(songs)
         self.stickers = {it: value for it, value in self.stickers.items() if it[0] in songs}
         self.leave({it.id for it in self.queue if it.uri not in songs}, songs)
         if self.current is not None:

@@ -5,6 +5,8 @@ import os
 import shlex
 import subprocess
 
+import scripts
+
 # Two counts, and the number of the allocation that is refused.
 COUNTS = 24
 
@@ -18,12 +20,11 @@ def library(name, room):
 
 def settings(library, path, refused=0, **words):
     """The environment of a program into which the library is loaded, with fresh counts in this file, and these words for it."""
-    with open(path, "wb") as file:
-        file.write(bytes(COUNTS - 8) + refused.to_bytes(8, "little"))
+    scripts.write(path, bytes(COUNTS - 8) + refused.to_bytes(8, "little"))
     return {"LD_PRELOAD": library, "COUNTS": path, **{name: str(word) for name, word in words.items()}}
 
 
 def counts(path):
     """How many calls there were, and how many of them were failed."""
-    with open(path, "rb") as file:
-        return tuple(int.from_bytes(file.read(8), "little") for _ in range(2))
+    found = scripts.read(path)
+    return tuple(int.from_bytes(found[at : at + 8], "little") for at in (0, 8))

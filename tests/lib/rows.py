@@ -19,8 +19,7 @@ FOLDER = os.path.join(os.path.dirname(os.path.dirname(os.path.abspath(__file__))
 def read(name, names):
     """The rows of a file: of each the request, and its lines, the text of a refusal, or None where no answer is said. `names` has the lines by
     the names that files before gave them, and takes those that this one gives."""
-    with open(f"{FOLDER}/{name}.txt", encoding="utf-8") as file:
-        lines = re.sub(r"\n +", "", file.read()).splitlines()
+    lines = re.sub(r"\n +", "", scripts.text_of(f"{FOLDER}/{name}.txt")).splitlines()
     found = []
     for line in lines:
         request, is_answered, answer = line.partition(" =>")
@@ -47,8 +46,12 @@ def answer_of(text, names):
     return [line for it in [*lines, *[last] * (last != "")] for line in names.get(it, [it])]
 
 
+def columns(name):
+    """The lines of a file of columns, which stand two blanks or more apart; - is an empty column."""
+    lines = [re.split(r" {2,}", it) for it in scripts.text_of(f"{FOLDER}/{name}.txt").splitlines() if it and it[0] != "#"]
+    return [["" if it == "-" else scripts.whole(it).decode() for it in cells] for cells in lines]
+
+
 def table(name, word):
-    """Of a file of columns, which stand two blanks or more apart, the lines that begin with this word; - is an empty column."""
-    with open(f"{FOLDER}/{name}.txt", encoding="utf-8") as file:
-        lines = [re.split(r" {2,}", it) for it in file.read().splitlines()]
-    return [tuple("" if it == "-" else scripts.whole(it).decode() for it in cells) for first, *cells in lines if first == word]
+    """Those that begin with this word."""
+    return [tuple(cells) for first, *cells in columns(name) if first == word]

@@ -26,9 +26,9 @@ Each file `tests/scripts/TOPIC/NAME.txt` is a script, run in a folder of its own
     status N                    the exit status, 0 if not said
     to NAME                     what it writes goes to this file, such as /dev/full
 
-In lines of input and output `%{TEXT*N}` stands for a text N times, the inner one first where one stands in another; in it `\\n` is a
-newline. In these and where bytes are given `%{head GENERATION BASE LENGTH}` stands for the hex digits of the head of a journal's file, as
-far as it is said: with an open gate, in the layout that is written.
+In all of them `%{TEXT*N}` stands for a text N times, the inner one first where one stands in another; in it `\\n` is a newline. And
+`%{head GENERATION BASE LENGTH}` stands for the hex digits of the head of a journal's file, as far as it is said: with an open gate, in the
+layout that is written.
 """
 
 import concurrent.futures
@@ -167,16 +167,27 @@ def read(path):
         return file.read()
 
 
+def text_of(path):
+    return read(path).decode()
+
+
 def write(path, content):
     """Writes a file of bytes or of text, and makes the folders above it."""
-    os.makedirs(os.path.dirname(path), exist_ok=True)
+    os.makedirs(os.path.dirname(os.path.abspath(path)), exist_ok=True)
     with open(path, "wb") as file:
         file.write(content.encode() if isinstance(content, str) else content)
 
 
+def write_at(path, place, content):
+    """Overwrites bytes of a file."""
+    with open(path, "r+b") as file:
+        file.seek(place)
+        file.write(content)
+
+
 def prepare(line, folder):
     """Does what a line says of files."""
-    word, *words = with_heads(line).split()
+    word, *words = whole(line).decode().split()
     path = os.path.join(folder, words[0]) if words else folder
     if word == "config":
         write(path, configuration(words[1:]))
@@ -207,9 +218,7 @@ def prepare(line, folder):
     elif word == "link":
         os.symlink(words[1], path)
     elif word == "patch":
-        with open(path, "r+b") as file:
-            file.seek(int(words[1]))
-            file.write(bytes.fromhex("".join(words[2:])))
+        write_at(path, int(words[1]), bytes.fromhex("".join(words[2:])))
     elif word == "holds":
         content = read(path)
         if len(content) != int(words[1]) or not content.endswith(bytes.fromhex("".join(words[2:]))):
@@ -230,10 +239,8 @@ def run_script(program, path):
 
 def do_lines(path, folder, do):
     """Does the lines of a script in a folder, each run by `do`."""
-    with open(path, encoding="utf-8") as file:
-        lines = file.read().split("\n")
     run = None
-    for number, line in enumerate([*lines, "end"], 1):
+    for number, line in enumerate([*text_of(path).split("\n"), "end"], 1):
         if not line or line.startswith("#") or run and run.take(number, line):
             continue
         if run:

@@ -11,6 +11,8 @@ GREETING = b"OK MPD 0.23.0\n"
 SUBSYSTEMS = ["database", "update", "stored_playlist", "playlist", "player", "mixer", "options", "sticker", "subscription", "message"]
 CHANNEL = re.compile(r"[A-Za-z0-9_.:-]{1,256}")
 MOST_CHANNELS, MOST_UNREAD, MOST_UNREAD_BYTES = 16, 64, 65_536
+# What one request may do with the wide profile.
+MOST_WORK = 10_000_000
 
 # Lines that are answered so, whatever the state is.
 FIXED = {
@@ -140,15 +142,24 @@ class Clients:
 
     def performed(self, client, request, stop):
         """Does commands, and gives their answer."""
-        given = ""
+        given, before, lines, work = [], None, "", 0
         for index, words in enumerate(request.commands[:stop]):
+            work += self.work_of(words)
             try:
-                given += self.done(client, words) + "list_OK\n" * request.is_list_ok
+                if self.state.is_wide and work > MOST_WORK:
+                    raise model.Refused(52, "request too large")
+                # The very same words once more are those of a command that reads.
+                lines, before = lines if words is before else self.done(client, words), words
             except model.Refused as refusal:
-                return f"{given}ACK [{refusal.code}@{index}] {{{words[0]}}} {refusal.text}\n".encode()
-        if stop is not None:
-            return f"{given}ACK [52@{stop}] {{{request.commands[stop][0]}}} out of memory\n".encode()
-        return f"{given}OK\n".encode()
+                given.append(f"ACK [{refusal.code}@{index}] {{{words[0]}}} {refusal.text}\n")
+                return "".join(given).encode()
+            given.append(lines + "list_OK\n" * request.is_list_ok)
+        end = "OK\n" if stop is None else f"ACK [52@{stop}] {{{request.commands[stop][0]}}} out of memory\n"
+        return "".join([*given, end]).encode()
+
+    def work_of(self, words):
+        """What a count is of the work of a request; of no other command there is much."""
+        return len(self.state.songs) * 10 * (1 + (len(words) - 1) // 2) if words[0] == "count" else 0
 
     def done(self, client, words):
         """Does a command, and gives its lines."""
@@ -238,7 +249,7 @@ class Clients:
         """The scan of a job has found these songs."""
         if job != self.state.job:
             return self.told([])
-        self.has_found |= songs != self.state.songs
+        self.has_found |= self.state.spared(songs) != self.state.songs
         return self.happened(lambda state: state.batch(songs))
 
     def missing(self, job, count):

@@ -3,7 +3,6 @@
 A line may have a remark behind two spaces. In the block of a conversation answers are indented once more. Everything is done in a folder of
 its own, in which `checkout` is this checkout by links, without its players, and in which CONFIG is a configuration with a journal."""
 
-import contextlib
 import os
 import re
 import shlex
@@ -11,7 +10,7 @@ import shutil
 import subprocess
 
 import builds
-from clients import GREETING, LIMIT, Client, wait_for
+from clients import GREETING, LIMIT, Client, wait_for, wait_to_listen
 from daemons import update
 from scripts import Failure, configuration, write
 from scripts import read as content
@@ -88,19 +87,10 @@ class Room:
         write(f"{self.folder}/{name}", content)
 
     def start(self, command, folder, address):
-        """Starts what serves, and waits for its greeting: the process."""
+        """Starts what serves, and waits until it does: the process."""
         with open(f"{self.folder}/log", "wb") as log:
             process = subprocess.Popen(shlex.split(command), cwd=folder, stdin=subprocess.DEVNULL, stdout=log, stderr=log, **self.how)
-
-        def is_there():
-            if process.poll() is not None:
-                with open(f"{self.folder}/log", encoding="utf-8", errors="replace") as file:
-                    raise Failure(f"{command}: ended with {process.returncode}: {file.read()[-500:]}")
-            with contextlib.suppress(OSError), Client(address):
-                return True
-            return False
-
-        wait_for(f"the greeting of {command}", is_there)
+        wait_to_listen(process, address, lambda: f"{command}: {content(f'{self.folder}/log')[-500:]}")
         return process
 
     def run(self, command, said=None):

@@ -127,7 +127,8 @@ class Episode:
 
     def open_streams(self):
         """Those that may send something."""
-        return [it for it in self.streams.values() if not it.has_ended and it.number not in self.clients.closed]
+        is_open = lambda it: not (it.has_ended or it.is_busy or it.is_lost) and it.number not in self.clients.closed
+        return [it for it in self.streams.values() if is_open(it)]
 
     def connect(self, draw):
         if len(self.streams) < MOST_CLIENTS:
@@ -185,9 +186,19 @@ class Episode:
                 stream.ask(request)
         return self.is_silent(f"{stream.number}>- {shown(stream.next_piece(draw))}")
 
+    def send_much(self, draw):
+        """A client to which nothing is on its way sends a list that answers or looks at too much, which is read in several turns."""
+        streams = [it for it in self.open_streams() if it.is_idle() and self.clients.waiting.get(it.number, ()) is None]
+        if streams and self.clients.state.songs:
+            stream = draw.choice(streams)
+            stream.ask(sessions.listing(changes.much(self.clients.state, draw), draw.random() < 0.5))
+            stream.sent, text, stream.unsent, stream.may_lag, stream.is_busy = stream.made, stream.unsent, b"", 100, True
+            self.counts["long lists"] += 1
+            self.is_silent(f"{stream.number}>- {shown(text)}")
+
     def slow(self, draw):
         """A client's stream gives or takes otherwise from now on."""
-        if not (streams := [it for it in self.streams.values() if not it.may_fail]):
+        if not (streams := [it for it in self.streams.values() if not (it.may_fail or it.is_busy or it.is_lost)]):
             return
         stream = draw.choice(streams)
         word = draw.choice(["takes", "takes", "takes", "gives", "budget", "calls"])
@@ -304,8 +315,9 @@ class Episode:
     def let_go(self, number):
         stream = self.streams.pop(number)
         is_closed = number in self.clients.closed
-        if not (is_closed or stream.has_ended or stream.may_fail):
+        if not (is_closed or stream.is_lost or stream.has_ended or stream.may_fail):
             raise Finding(f"client {number} is let go of")
+        self.counts["answers too long"] += stream.is_lost
         # One that sends nothing more is let go of behind the group of its last request, and what others change behind it is not told.
         if len(stream.due) > stream.has_ended * stream.unasked and not stream.may_fail:
             raise Finding(f"client {number} is let go of, and is owed {stream.due[:300]!r}")
@@ -543,7 +555,7 @@ class Episode:
         for number in closed:
             self.streams.pop(number)
         for number, stream in self.streams.items():
-            stream.due, stream.unasked = due[number], 0
+            stream.due, stream.unasked, stream.is_busy = due[number], 0, stream.is_busy and not due[number]
         return self.end_life([self.clients.state], self.clients.has_ended)
 
     def asked_of(self, turn):
@@ -560,7 +572,7 @@ class Episode:
     def is_explained(self, number):
         """Whether a client may be let go of with memory enough."""
         stream = self.streams[number]
-        return number in self.clients.closed or stream.has_ended or stream.may_fail
+        return number in self.clients.closed or stream.is_lost or stream.has_ended or stream.may_fail
 
     def worlds(self, orders, stops, closed):
         """What may have been done: lists of a client, its request, and the command at which memory was refused, or None."""
@@ -764,6 +776,7 @@ class Episode:
     KINDS = {
         turn: 40,
         send: 36,
+        send_much: 0.3,
         connect: 5,
         slow: 5,
         end_stream: 1,

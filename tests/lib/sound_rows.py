@@ -11,8 +11,8 @@ import signal
 import struct
 import time
 
-from daemons import check, knowing, wait_for
-from scripts import Failure, write
+from daemons import check, knowing, standing_still, update, wait_for
+from scripts import Failure, read, write
 from sounds import HEAD, LONG, MOST_FRAMES, SONGS, SOUND, Recorded, Song, Sound, changes_of_player, check_front, files_in, fill_the_pipe
 from sounds import pending, pieces_of, play_to_the_end, playing, random_song, runs_of, sound_of, stream_of
 from waves import samples
@@ -34,6 +34,23 @@ def queue_in_waves(program, folder):
         daemon.kill()
     wanted = [sound_of(it, percent) for percent in (100, 37) for it in SONGS]
     check("the sound", runs_of(pieces_of(recorded.end())), wanted)
+
+
+def removed_song_is_heard(program, folder):
+    """With `stock_clients` a song whose file is removed while it plays stays, though a job misses it, and is heard to its end. A job behind
+    that drops it."""
+    with playing(program, folder, [LONG, SONGS[1]], **{"stock_clients:": "true"}) as daemon, daemon.client() as client:
+        both = [f"{at}:file: {it.name}" for at, it in enumerate([LONG, SONGS[1]])]
+        fill_the_pipe(folder, client, 0)
+        os.remove(f"{folder}/music/{LONG.name}")
+        update(client)
+        check("while it plays", (client.ask("playlist"), client.value("status", "state")), ([*both, "OK"], "play"))
+        recorded = Recorded(f"{folder}/sound")
+        wait_for("the end of the queue", lambda: client.value("status", "state") == "stop")
+        update(client)
+        check("behind it", client.ask("playlist"), [f"0:file: {SONGS[1].name}", "OK"])
+        daemon.kill()
+    check("the sound", runs_of(pieces_of(recorded.end())), [sound_of(it) for it in (LONG, SONGS[1])])
 
 
 def pause_in_waves(program, folder):
@@ -63,11 +80,11 @@ def sound_into_files(program, folder):
             play_to_the_end(client, "delete 4", "play 0")
             play_to_the_end(client, "setvol 37", "play 0")
             client.do("clear", "setvol 100", f"add {LONG.name}")
-            with sound.held():
+            with standing_still(sound.process):
                 fill_the_pipe(folder, client, 0)
                 client.do("pause 1")
             client.do("pause 0")
-            with sound.held():
+            with standing_still(sound.process):
                 client.do("play 0")
                 client.do("seekcur 1.5")
             wait_for("the end of the queue", lambda: client.value("status", "state") == "stop")
@@ -88,7 +105,7 @@ def killed_in_a_piece(program, folder):
     with daemon, Sound(folder, "--to", "files", "sound") as sound:
         wait_for("a reader", lambda: sound.is_reading("sound"))
         for room in rooms:
-            with sound.held():
+            with standing_still(sound.process):
                 fcntl.fcntl(keeper, fcntl.F_SETPIPE_SZ, room)
                 with daemon.client() as client:
                     fill_the_pipe(folder, client, 0)
@@ -113,7 +130,7 @@ def sound_that_follows(program, folder):
     with playing(program, folder, [LONG]) as daemon, Sound(folder, "--follow", "--to", "files", "sound") as sound:
         for life in range(lives):
             wait_for("a reader", lambda: sound.is_reading("sound"))
-            with sound.held():
+            with standing_still(sound.process):
                 with daemon.client() as client:
                     fill_the_pipe(folder, client, 0)
                 daemon.kill()
@@ -133,8 +150,8 @@ def sound_that_follows(program, folder):
 
 def is_whole(path):
     """Whether contrib/sound has finished this file."""
-    with contextlib.suppress(FileNotFoundError), open(path, "rb") as file:
-        data = file.read()
+    with contextlib.suppress(FileNotFoundError):
+        data = read(path)
         return len(data) > HEAD and int.from_bytes(data[HEAD - 4 : HEAD], "little") == len(data) - HEAD
     return False
 
@@ -227,9 +244,24 @@ def players(folder):
     for name in os.listdir(folder):
         if name.startswith("player-"):
             number, rate, channels = map(int, name.split("-")[1:])
-            with open(f"{folder}/{name}", "rb") as file:
-                found[rate, channels] = number, file.read()
+            found[rate, channels] = number, read(f"{folder}/{name}")
     return found
+
+
+def last_frames_before_a_pause(program, folder):
+    """aplay plays only whole periods: where nothing follows, silence fills the one that a song's last frames have begun."""
+    (rate, channels), whole = sound_of(LONG)
+    period = rate // 40 * 2 * channels
+    check("a last period that isn't whole", len(whole) % period > 0, True)
+    with playing(program, folder, [LONG], output="sound") as daemon:
+        reads = f"while len(part := sys.stdin.buffer.read({period})) == {period}:\n    file.write(part)\n"
+        write(f"{folder}/aplay", f"#!/usr/bin/env python3\nimport sys\nfile = open('heard', 'wb', 0)\n{reads}")
+        os.chmod(f"{folder}/aplay", 0o755)
+        with Sound(folder, "--player", "./aplay", "sound"), daemon.client() as client:
+            play_to_the_end(client, "play 0")
+            wait_for("the last frames", lambda: os.path.getsize(f"{folder}/heard") >= len(whole))
+        with open(f"{folder}/heard", "rb") as file:
+            check("what was heard", file.read().rstrip(b"\0"), whole.rstrip(b"\0"))
 
 
 def player_that_ends(program, folder):
@@ -244,8 +276,7 @@ def player_that_ends(program, folder):
         line = "sound: sh ended: no card; it is begun again once a second, and the daemon plays on meanwhile"
         check("how it ends", sound.end(), (0, [line]))
     whole = len(LONG.values) / LONG.channels / LONG.rate
-    with open(f"{folder}/tries", encoding="utf-8") as file:
-        tries = len(file.readlines())
+    tries = read(f"{folder}/tries").count(b"\n")
     # What the pipe holds is given before it is heard.
     if seconds < whole - 0.6 or not 1 <= tries <= 1 + time.monotonic() - begun:
         raise Failure(f"{whole:.1f} seconds of sound were played in {seconds:.1f}; {tries} tries")

@@ -2,12 +2,10 @@
 
 import array
 import collections
-import contextlib
 import fcntl
 import os
 import random
 import select
-import signal
 import struct
 import subprocess
 import sys
@@ -15,7 +13,8 @@ import termios
 import threading
 import time
 
-from daemons import LIMIT, check, make_pipe, put_song, serving, update, wait_for
+from clients import LIMIT, wait_for
+from daemons import check, make_pipe, open_files, put_song, serving, update
 from scripts import Failure, read
 from waves import samples, wave_of
 
@@ -81,9 +80,13 @@ def is_full(path):
 
 def pending(path):
     """How many bytes are in a pipe."""
-    count, file = array.array("i", [0]), os.open(path, os.O_RDONLY | os.O_NONBLOCK)
+    with open(path, "rb", opener=lambda *_: os.open(path, os.O_RDONLY | os.O_NONBLOCK)) as file:
+        return unread(file)
+
+
+def unread(file):
+    count = array.array("i", [0])
     fcntl.ioctl(file, termios.FIONREAD, count)
-    os.close(file)
     return count[0]
 
 
@@ -166,18 +169,7 @@ class Sound:
 
     def is_reading(self, name):
         """Whether it has this file of its folder open."""
-        files, found = f"/proc/{self.process.pid}/fd", []
-        for it in os.listdir(files):
-            with contextlib.suppress(FileNotFoundError):  # It is closed meanwhile.
-                found.append(os.readlink(f"{files}/{it}"))
-        return os.path.realpath(f"{self.folder}/{name}") in found
-
-    @contextlib.contextmanager
-    def held(self):
-        """It reads nothing meanwhile."""
-        self.process.send_signal(signal.SIGSTOP)
-        yield
-        self.process.send_signal(signal.SIGCONT)
+        return os.path.realpath(f"{self.folder}/{name}") in open_files(self.process)
 
     def __enter__(self):
         return self

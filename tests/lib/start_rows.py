@@ -15,8 +15,8 @@ import threading
 import types
 from unittest import mock
 
-from clients import Client
-from daemons import LIMIT, check, update, wait_for
+from clients import LIMIT, Client, listens, wait_for
+from daemons import check, update
 from decoders import PYTHON, lacking, tag_files
 from homes import NAME, ROOT, Home, Service, content, put, run_before, script_of
 from scripts import write
@@ -317,7 +317,7 @@ from homes import script_of
 start = script_of("start")
 start.PLAYER, start.CONFIG, start.LOG = folder, f"{folder}/mpd_daemon.toml", f"{folder}/start.log"
 # Its own looks from one port on, and others look beside it.
-start.program_to_run, start.layout.PYTHON, start.free_port = lambda _: program, python, free_port
+start.program_to_run, start.layout.PYTHON, start.layout.free_port = lambda _: program, python, free_port
 sys.argv = ["start", "--silent"]
 start.main()
 """
@@ -334,15 +334,8 @@ class Started:
 
     def __enter__(self):
         path = f"{self.folder}/mpd_daemon.socket"
-        wait_for("a daemon that listens", lambda: os.path.exists(path) and self.is_served(path))
+        wait_for("a daemon that listens", lambda: listens(path))
         return Client(path)
-
-    def is_served(self, path):
-        try:
-            Client(path).socket.close()
-        except OSError:
-            return False
-        return True
 
     def __exit__(self, *_):
         self.process.terminate()
@@ -387,7 +380,7 @@ def songs_of_other_formats_started(program, folder):
         for name in MADE:
             told = {key: client.value(f"find \"(file == '{name}')\"", key) for key in ("Title", "Artist")}
             check(f"the tags of {name}", told, {"Title": f"Dawn {name}", "Artist": "Björn Ö"})
-            check(f"the cover of {name}", picture_of(client, name), made.FRONT)
+            check(f"the cover of {name}", client.picture("readpicture", name), (made.FRONT, len(made.FRONT), "image/png"))
         recorded = Recorded(f"{folder}/player/sound.pipe")
         play_to_the_end(client, *(f'add "{it}"' for it in forms), "play 0")
         for name in MADE:
@@ -408,18 +401,6 @@ def errors_of(data, source):
     apart = [abs(one - other) for one, other in zip(array.array("h", data), array.array("h", source), strict=True)]
     seam = apart[2 * (CUT_AT - 1_000) : 2 * (CUT_AT + 1_000)]
     return statistics.mean(seam), statistics.mean(apart)
-
-
-def picture_of(client, name):
-    """The bytes of a small picture."""
-    client.send(f'readpicture "{name}" 0\n')
-    told = dict(client.line().split(b": ", 1) for _ in range(3))
-    count = int(told[b"binary"])
-    while len(client.unread) < count + 4:
-        client.unread += client.piece()
-    picture, rest, client.unread = client.unread[:count], client.unread[count : count + 4], client.unread[count + 4 :]
-    check("its head and its end", (told[b"size"], told[b"type"], rest), (b"%d" % count, b"image/png", b"\nOK\n"))
-    return picture
 
 
 def song_that_plays_on_by_a_decoder(program, folder):

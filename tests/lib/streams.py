@@ -4,6 +4,8 @@ import collections
 import copy
 import re
 
+# So many bytes of answers are held for a client at most.
+MOST_HELD = 8_388_608
 
 TURN_WORDS = re.compile(r"(event|before|collected|refused|no memory at) (\d+)|nothing done, refused (43)")
 READ, GOT, CLOSED = re.compile(r"(\d+) read (\d+) (\d+)"), re.compile(r"(\d+)< (.*)", re.DOTALL), re.compile(r"(\d+) closed")
@@ -53,14 +55,21 @@ class Stream:
         self.has_subscribed = False
         # It is read from the turn on behind the one in which it is accepted.
         self.is_new = True
+        # It waits for the answer to a list that is read in several turns; or its answers were too long, so that it gets nothing more.
+        self.is_busy, self.is_lost = False, False
 
     def is_free(self):
         """Whether nothing holds it up: all that it is owed comes in this turn, and all that it sent is read."""
         return not (self.is_blocked or self.may_fail or self.may_lag)
 
+    def is_idle(self):
+        """Whether nothing is on its way, and nothing holds it up."""
+        return self.is_free() and not (self.is_new or self.unsent or self.due or self.budget) and self.read == self.sent
+
     def must_go(self, closed):
         """Whether it is let go of in this turn, if the daemon has closed these."""
-        return self.is_free() and not self.is_new and (self.number in closed or self.has_ended and not self.budget)
+        is_over = self.number in closed or self.is_lost or self.has_ended and not self.budget
+        return self.is_free() and not self.is_new and is_over
 
     def ask(self, request):
         self.unsent += request.text
@@ -88,6 +97,9 @@ class Stream:
     def give(self, text, has_asked):
         """It is to get these bytes, for a request of its own or of another."""
         self.due, self.unasked = self.due + text, 0 if has_asked else self.unasked + len(text)
+        self.is_busy = self.is_busy and not has_asked
+        if self.is_lost or len(self.due) > MOST_HELD:
+            self.is_lost, self.due, self.may_lag = True, b"", 0
 
     def copied(self):
         return copy.copy(self)
@@ -104,11 +116,14 @@ class Turn:
 
     def __init__(self, printed):
         self.events, self.left, self.refused, self.stops, self.has_ended = [], 0, None, {}, False
-        self.reads, self.got, self.closed, self.is_nothing, self.parts = [], {}, set(), False, []
+        self.reads, self.closed, self.is_nothing, self.parts = [], set(), False, []
+        pieces = collections.defaultdict(list)
         for line in printed:
-            self.take(line)
+            self.take(line, pieces)
+        # What each client got.
+        self.got = {number: b"".join(it) for number, it in pieces.items()}
 
-    def take(self, line):
+    def take(self, line, pieces):
         if found := TURN_WORDS.fullmatch(line):
             self.parts.append(line)
             self.take_part(found[1], int(found[2] or found[3]))
@@ -119,7 +134,7 @@ class Turn:
             self.reads.append((int(found[3]), int(found[1]), int(found[2])))
         elif found := GOT.fullmatch(line):
             text = found[2].encode(errors="surrogateescape")
-            self.got[int(found[1])] = self.got.get(int(found[1]), b"") + (text[:-1] if text.endswith(b"%") else text + b"\n")
+            pieces[int(found[1])].append(text[:-1] if text.endswith(b"%") else text + b"\n")
         elif found := CLOSED.fullmatch(line):
             self.closed.add(int(found[1]))
         else:

@@ -13,8 +13,7 @@ class Edits:
 
     def __init__(self, path):
         self.path, self.dropped, self.added = path, set(), collections.defaultdict(list)
-        with open(path, encoding="utf-8") as file:
-            self.lines = file.read().split("\n")
+        self.lines = scripts.text_of(path).split("\n")
 
     def merge(self, sign, place, old, new):
         """Behind the line of this number the ones with a sign are to be these, of which `old` has the numbers and the texts now."""
@@ -32,8 +31,7 @@ class Edits:
             found += [] if number in self.dropped else [line]
             found += self.added[number]
         if found != self.lines:
-            with open(self.path, "w", encoding="utf-8") as file:
-                file.write("\n".join(found))
+            scripts.write(self.path, "\n".join(found))
         return len(self.dropped), sum(map(len, self.added.values()))
 
 

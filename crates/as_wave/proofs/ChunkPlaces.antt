@@ -1,19 +1,10 @@
 -- The list of chunks, by their heads.
-use Rattle.std.proofs.Common.{◌≡◌, ◌+◌, ◌-◌, ◌≤◌, ℕ, min, List, [], ◌∷◌, ◌++◌, length, take, ap, ◌∙◌, sym, append_assoc, slice_range}
+use Rattle.std.proofs.Common.{◌≡◌, ◌+◌, ◌-◌, ◌≤◌, ℕ, List, [], ◌∷◌, ◌++◌, length, take, ap, ◌∙◌, sym, append_assoc}
 use Rattle.std.proofs.lemmas.List.{map_push, append-nil, take_all, take_at, length-map}
-use Rattle.wave_pcm.specs.Chunks.{Chunk, chunks_in, size_in, padded}
-use Rattle.wave_pcm.proofs.ChunkList.{next_chunk}
-use Rattle.as_wave.specs.ChunkHead.{chunk_at, chunks_at}
-use Rattle.as_wave.specs.declared.chunks.ChunkHead.{ChunkHead}
-
--- the first chunk of a range, by its head, and those behind it
-pub next_head : (file bytes : List ℕ) (at end : ℕ) (head : ChunkHead) → at + 8 ≤ end → end ≤ length file
-    → bytes ≡ slice_range file at (at + 8)
-    → head.id ≡ take 4 bytes → head.first ≡ at + 8 → head.len ≡ min (size_in bytes) (end - at - 8)
-    → head.next ≡ at + 8 + min (padded (size_in bytes)) (end - at - 8)
-    → chunks_in file at end ≡ chunk_at file head ∷ chunks_in file head.next end
-next_head file bytes at end head room within read id first len next = rw (id, first, len, next) (next_chunk file bytes at end room
-    within read)
+use Rattle.wave_pcm.specs.Chunks.{Chunk}
+use Rattle.wave_pcm.specs.ChunkHead.{chunk_at}
+use Rattle.as_wave.specs.ChunkHead.{chunks_at}
+use Rattle.wave_pcm.specs.declared.chunks.ChunkHead.{ChunkHead}
 
 -- one more chunk
 pub pushed : (n : ℕ) (file : List ℕ) (heads now : List ChunkHead) (head : ChunkHead) (before rest all : List Chunk)

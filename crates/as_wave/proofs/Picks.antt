@@ -8,10 +8,11 @@ use Rattle.std.proofs.lemmas.List.{length-map, take_all, length-take-le}
 use Rattle.wave_pcm.specs.Chunks.{Chunk, chunks_in}
 use Rattle.wave_pcm.specs.Reading.{MAX_CHUNKS, is_wave}
 use Rattle.wave_pcm.proofs.Finds.{find-map}
-use Rattle.as_wave.specs.ChunkHead.{chunk_at, chunks_at, StandsBy}
+use Rattle.wave_pcm.specs.ChunkHead.{chunk_at}
+use Rattle.as_wave.specs.ChunkHead.{chunks_at, StandsBy}
 use Rattle.as_wave.specs.Format.{sample_format}
 use Rattle.as_wave.specs.StandsFor.{is_format_id, is_data_id, is_kept_id, is_key, format_in, data_in, kept_in, MAX_KEPT, wave_with, wave_by, file_chunks, converted}
-use Rattle.as_wave.specs.declared.chunks.ChunkHead.{ChunkHead}
+use Rattle.wave_pcm.specs.declared.chunks.ChunkHead.{ChunkHead}
 use Rattle.as_wave.specs.declared.format.SampleFormat.{SampleFormat}
 
 abbrev pub is_key_head : ChunkHead → Bool

@@ -7,12 +7,13 @@ use Rattle.std.proofs.lemmas.List.{length-append, drop-drop, drop_at, take-appen
 use Rattle.std.proofs.Math.Seq.{drop-append-add}
 use Rattle.std.proofs.lemmas.List.Concat.{flat_map-append}
 use Rattle.song_files.proofs.Ranges.{range_is}
-use Rattle.as_wave.specs.ChunkHead.{chunk_at, chunks_at, StandsBy, chunk_size}
+use Rattle.wave_pcm.specs.ChunkHead.{chunk_at}
+use Rattle.as_wave.specs.ChunkHead.{chunks_at, StandsBy, chunk_size}
 use Rattle.as_wave.specs.Format.{byte_len}
 use Rattle.as_wave.specs.Plan.{sound_from}
 use Rattle.as_wave.specs.Samples.{sample_at, samples_of, at_16, bytes_of}
 use Rattle.as_wave.specs.StandsFor.{chunk_bytes, chunks_bytes}
-use Rattle.as_wave.specs.declared.chunks.ChunkHead.{ChunkHead}
+use Rattle.wave_pcm.specs.declared.chunks.ChunkHead.{ChunkHead}
 use Rattle.as_wave.specs.declared.format.SampleWidth.{SampleWidth}
 use Rattle.as_wave.proofs.PlanParts.{length-sound_from}
 use Rattle.as_wave.proofs.SampleList.{two_bytes}

@@ -7,12 +7,13 @@ use Rattle.std.proofs.lemmas.List.{length-map, length-append}
 use Rattle.std.proofs.Math.Nat.{mul-div-le}
 use Rattle.wave_pcm.specs.Chunks.{Chunk}
 use Rattle.song_files.proofs.Ranges.{range_is}
-use Rattle.as_wave.specs.ChunkHead.{chunk_at, chunks_at, StandsBy, total_size}
+use Rattle.wave_pcm.specs.ChunkHead.{chunk_at}
+use Rattle.as_wave.specs.ChunkHead.{chunks_at, StandsBy, total_size}
 use Rattle.as_wave.specs.Format.{byte_len}
 use Rattle.as_wave.specs.Plan.{laid_out, sound_from, wave_head}
 use Rattle.as_wave.specs.Samples.{samples_of, at_16, bytes_of, sound_in, frames_in}
 use Rattle.as_wave.specs.StandsFor.{chunk_bytes, chunks_bytes, riff_data, riff_file, wave_with}
-use Rattle.as_wave.specs.declared.chunks.ChunkHead.{ChunkHead}
+use Rattle.wave_pcm.specs.declared.chunks.ChunkHead.{ChunkHead}
 use Rattle.as_wave.specs.declared.format.SampleFormat.{SampleFormat}
 use Rattle.as_wave.specs.declared.format.SampleWidth.{SampleWidth}
 use Rattle.as_wave.proofs.SampleList.{length-samples_of, length-bytes_of}

@@ -3,10 +3,11 @@ use Rattle.std.proofs.Common.{◌≡◌, ◌+◌, ◌-◌, ◌*◌, ◌≤◌, �
 use Rattle.std.specs.Prelude.{Result, Option, IfSome}
 use Rattle.std.proofs.lemmas.List.{drop_at, drop-drop, take-append-le, length-drop}
 use Rattle.song_files.proofs.Ranges.{range_is}
-use Rattle.as_wave.specs.ChunkHead.{chunk_at, chunks_at, StandsBy, chunk_size}
+use Rattle.wave_pcm.specs.ChunkHead.{chunk_at}
+use Rattle.as_wave.specs.ChunkHead.{chunks_at, StandsBy, chunk_size}
 use Rattle.as_wave.specs.Plan.{wave_head, sound_from, laid_out, planned, Fits}
 use Rattle.as_wave.specs.StandsFor.{chunk_bytes, chunks_bytes}
-use Rattle.as_wave.specs.declared.chunks.ChunkHead.{ChunkHead}
+use Rattle.wave_pcm.specs.declared.chunks.ChunkHead.{ChunkHead}
 use Rattle.as_wave.specs.declared.format.SampleFormat.{SampleFormat}
 use Rattle.as_wave.specs.declared.plan.PcmPlan.{PcmPlan}
 use Rattle.as_wave.proofs.PieceReads.{slice_mid}

@@ -7,12 +7,13 @@ use Rattle.std.proofs.lemmas.List.Sums.{sum_by-cons}
 use Rattle.std.proofs.lemmas.List.Elements.{All-head, All-tail}
 use Rattle.wave_pcm.specs.Chunks.{Chunk, padded}
 use Rattle.song_files.proofs.Ranges.{range_is}
-use Rattle.as_wave.specs.ChunkHead.{chunk_at, chunks_at, StandsBy, chunk_size, total_size}
+use Rattle.wave_pcm.specs.ChunkHead.{chunk_at}
+use Rattle.as_wave.specs.ChunkHead.{chunks_at, StandsBy, chunk_size, total_size}
 use Rattle.as_wave.specs.Format.{byte_len}
 use Rattle.as_wave.specs.Samples.{sample_at, samples_of}
 use Rattle.as_wave.specs.StandsFor.{chunk_bytes, chunks_bytes, format_bytes, riff_data}
 use Rattle.as_wave.specs.Plan.{wave_head}
-use Rattle.as_wave.specs.declared.chunks.ChunkHead.{ChunkHead}
+use Rattle.wave_pcm.specs.declared.chunks.ChunkHead.{ChunkHead}
 use Rattle.as_wave.specs.declared.format.SampleFormat.{SampleFormat}
 use Rattle.as_wave.specs.declared.format.SampleWidth.{SampleWidth}
 use Rattle.as_wave.specs.declared.format.SampleWidth.TheVariants.{Bits8, Bits16, Bits24, Bits32}

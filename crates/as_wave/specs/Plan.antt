@@ -5,7 +5,7 @@ use Rattle.as_wave.specs.ChunkHead.{chunks_at, StandsBy}
 use Rattle.as_wave.specs.Format.{byte_len}
 use Rattle.as_wave.specs.Samples.{samples_of, at_16, bytes_of}
 use Rattle.as_wave.specs.StandsFor.{format_bytes, chunks_bytes}
-use Rattle.as_wave.specs.declared.chunks.ChunkHead.{ChunkHead}
+use Rattle.wave_pcm.specs.declared.chunks.ChunkHead.{ChunkHead}
 use Rattle.as_wave.specs.declared.format.SampleFormat.{SampleFormat}
 use Rattle.as_wave.specs.declared.format.SampleWidth.{SampleWidth}
 use Rattle.as_wave.specs.declared.plan.PcmPlan.{PcmPlan}

@@ -9,13 +9,13 @@ ghost use Rattle.as_wave.specs.Playable.{IsPlayable};
 ghost use Rattle.as_wave.specs.StandsFor.{is_format_id, is_data_id, is_kept_id, format_in, wave_by, converted};
 
 use crate::SampleFormat;
-use crate::chunks::{ChunkHead, begins_as_wave, list_chunks};
+use crate::chunks::{begins_as_wave, is_data, is_format, is_kept, list_chunks};
 use crate::format::read_format;
 use crate::plan::PcmPlan;
 use crate::planning::plan_for;
 use song_files::Source;
 use std::alloc::{AllocError, Global};
-use wave_pcm::{MAX_CHUNKS, WaveError};
+use wave_pcm::{ChunkHead, MAX_CHUNKS, WaveError};
 
 /// How many chunks are kept at most.
 const MAX_KEPT: usize = 64;
@@ -25,7 +25,7 @@ fn first_key(heads: &[ChunkHead]) -> Option<ChunkHead>
     ensures found { result ≡ find (λ h. is_format_id h.id || is_data_id h.id) heads.now }
     ensures within { (end : ℕ) → All (StandsBy end) heads.now → IfSome result (StandsBy end) }
 {
-    heads.iter().copied().find(|h| h.is_format() || h.is_data())
+    heads.iter().copied().find(|h| is_format(h) || is_data(h))
 }
 
 /// The first data.
@@ -33,14 +33,14 @@ fn first_data(heads: &[ChunkHead]) -> Option<ChunkHead>
     ensures found { result ≡ find (λ h. is_data_id h.id) heads.now }
     ensures within { (end : ℕ) → All (StandsBy end) heads.now → IfSome result (StandsBy end) }
 {
-    heads.iter().copied().find(|h| h.is_data())
+    heads.iter().copied().find(|h| is_data(h))
 }
 
 /// The chunks that are kept.
 fn kept_of(alloc: Global, heads: &[ChunkHead]) -> Result<Vec<ChunkHead>, AllocError>
     ensures { IfOk result (λ kept. kept.items ≡ filter (λ h. is_kept_id h.id) heads.now) }
 {
-    heads.iter().copied().filter(|h| h.is_kept()).collect(alloc)
+    heads.iter().copied().filter(|h| is_kept(h)).collect(alloc)
 }
 
 /// The format by the first chunk `fmt `, with no data before it.
@@ -58,7 +58,7 @@ fn first_format<S: Source>(
     ensures kept { S.honest source.old → Keeps S.bytes S.honest S.faults S.steady source.old source.new }
 {
     match first_key(heads) {
-        Some(head) if head.is_format() => read_format(source, head.first, head.len),
+        Some(head) if is_format(&head) => read_format(source, head.first, head.len),
         _ => Ok(None),
     }
 }

@@ -4,16 +4,16 @@ ghost use Rattle.std.specs.Prelude.{ℕ, List, All, MatchOption, IfSome, ◌++�
 ghost use Rattle.std.specs.Int.{w32, to_le_bytes};
 ghost use Rattle.wave_pcm.specs.Chunks.{padded};
 ghost use Rattle.song_files.specs.Source.{Grows, Keeps};
-ghost use Rattle.as_wave.specs.ChunkHead.{chunk_at, chunks_at, StandsBy, chunk_size, total_size};
+ghost use Rattle.wave_pcm.specs.ChunkHead.{chunk_at};
+ghost use Rattle.as_wave.specs.ChunkHead.{chunks_at, StandsBy, chunk_size, total_size};
 ghost use Rattle.as_wave.specs.Format.{byte_len};
 ghost use Rattle.as_wave.specs.Plan.{sound_from};
 ghost use Rattle.as_wave.specs.StandsFor.{chunk_bytes, chunks_bytes};
 
 use crate::SampleWidth;
-use crate::chunks::ChunkHead;
 use crate::samples::convert;
 use song_files::{Source, SourceFault, read_exact};
-use wave_pcm::WaveError;
+use wave_pcm::{ChunkHead, WaveError};
 
 /// How many bytes the head of a chunk has.
 const HEAD_LEN: u64 = 8;

@@ -5,7 +5,7 @@ ghost use Rattle.as_wave.specs.Format.{byte_len};
 ghost use Rattle.as_wave.specs.Playable.{IsPlayable};
 
 use crate::SampleFormat;
-use crate::chunks::ChunkHead;
+use wave_pcm::ChunkHead;
 
 /// How the WAVE file that a file of PCM stands for is made of it.
 #[derive(Debug, Drop)]

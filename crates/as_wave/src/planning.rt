@@ -1,13 +1,14 @@
 // The plan by the chunks of a file.
 ghost use Rattle.std.specs.Prelude.{◌≡◌, ◌-◌, ◌+◌, ◌*◌, ◌<◌, ◌≤◌, ◌^◌, length, slice_range, List, ℕ, All, MatchOption, IfSome, option_map};
-ghost use Rattle.as_wave.specs.ChunkHead.{chunk_at, chunks_at, total_size, StandsBy};
+ghost use Rattle.wave_pcm.specs.ChunkHead.{chunk_at};
+ghost use Rattle.as_wave.specs.ChunkHead.{chunks_at, total_size, StandsBy};
 ghost use Rattle.as_wave.specs.Playable.{IsPlayable};
 ghost use Rattle.as_wave.specs.StandsFor.{wave_with};
 ghost use Rattle.as_wave.specs.Plan.{planned, Fits};
 
 use crate::SampleFormat;
-use crate::chunks::ChunkHead;
 use crate::plan::PcmPlan;
+use wave_pcm::ChunkHead;
 
 /// The sizes of a RIFF file's chunks are below this.
 const SIZE_END: u64 = 1 << 32;

@@ -83,6 +83,12 @@ abbrev pub error_lines : Option PlayFailure → List ℕ
 error_lines None = []
 error_lines (Some failure) = pair (codes "error") (text_of failure)
 
+-- what failed, or else that nobody reads what sounds
+abbrev pub told_errors : Option PlayFailure → Bool → List ℕ
+told_errors None false = []
+told_errors None true = pair (codes "error") (codes "nobody reads the output")
+told_errors (Some failure) is_unread = error_lines (Some failure)
+
 abbrev pub status_lines : StatusLines → List ℕ
 status_lines status = concat (
     setting_lines status.volume status.options
@@ -93,5 +99,5 @@ status_lines status = concat (
     ∷ next_lines status.next
     ∷ playing_lines status.state status.current
     ∷ job_lines status.job
-    ∷ error_lines (option_copied status.error)
+    ∷ told_errors (option_copied status.error) status.is_unread
     ∷ [])

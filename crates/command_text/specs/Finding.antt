@@ -23,8 +23,9 @@ use Rattle.command_text.specs.declared.topic.FindingName.{FindingName}
 use Rattle.command_text.specs.declared.topic.FindingName.TheVariants as names
 use Rattle.command_text.specs.Arguments.{number_of, target_of, window_of}
 use Rattle.song_files.specs.declared.tag.Tag.{Tag}
+use Rattle.song_files.specs.declared.tag.TheConstants.{TAG_COUNT}
 use Rattle.command_text.specs.Counts.{◌>>=◌, Word, argument}
-use Rattle.command_text.specs.Groups.{end_tag, last_word, most_ends, part_ends, takes_groups, without_end}
+use Rattle.command_text.specs.Groups.{end_tag, last_word, part_ends, takes_groups, without_end}
 use Rattle.command_text.specs.Masks.{empty_mask, only_tag}
 use Rattle.command_text.specs.NameArguments.{told, playlist_name, filter_argument, tag_argument}
 
@@ -223,10 +224,10 @@ filter_if_any profile (word ∷ words) = filter_alone profile (word ∷ words) >
 abbrev pub grouped_tag : Profile → Word → List Word → Option Tag
 grouped_tag profile name words = if takes_groups profile words then tag_named profile name else None
 
--- the values of a tag within those of others, of all songs or of those of a filter
+-- the values of a tag within those of others, at most one for each tag there is, of all songs or of those of a filter
 abbrev pub groups_of : Profile → Tag → List Word → Result FindingCommand CommandRefusal
 groups_of profile tag words = do
-  parts ← part_ends most_ends (only_tag tag) words
+  parts ← part_ends TAG_COUNT (only_tag tag) words
   filter ← filter_if_any profile parts.words
   Ok (commands.ListGroups (parts.tags ++ tag ∷ []) filter)
 

@@ -56,7 +56,3 @@ part_ends (suc most) before words =
     then part_end (end_tag before (tag_named Wide (last_word words)))
     (λ tag. part_ends most (with_tags before (only_tag tag)) (without_end words))
     else Ok (parted words [])
-
--- as many as there are tags
-abbrev pub most_ends : ℕ
-most_ends = 31

@@ -16,6 +16,7 @@ use Rattle.command_text.specs.declared.topic.QueueName.TheVariants as queue
 use Rattle.command_text.specs.declared.topic.FindingName.TheVariants as finding
 use Rattle.command_text.specs.declared.topic.ListsName.TheVariants as lists
 use Rattle.command_text.specs.declared.topic.MessagesName.TheVariants as messages
+use Rattle.command_text.specs.declared.topic.StickersName.TheVariants as stickers
 use Rattle.command_text.specs.declared.topic.PlayingName.TheVariants as playing
 use Rattle.command_text.specs.declared.topic.SessionName.TheVariants as session
 use Rattle.command_text.specs.declared.topic.SetupName.TheVariants as setup
@@ -127,7 +128,7 @@ rows =
     row names.Single (codes "single") (topics.Settings settings.Single) ∷
     row names.Stats (codes "stats") (topics.Database database.Stats) ∷
     row names.Status (codes "status") (topics.Settings settings.Status) ∷
-    row names.Sticker (codes "sticker") topics.Stickers ∷
+    row names.Sticker (codes "sticker") (topics.Stickers stickers.Sticker) ∷
     row names.Stop (codes "stop") (topics.Playing playing.Stop) ∷
     wide_row names.Subscribe (codes "subscribe") (topics.Messages messages.Subscribe) ∷
     row names.Swap (codes "swap") (topics.Queue queue.Swap) ∷
@@ -145,7 +146,7 @@ place_of name = tag_of the_type name
 
 -- the row of a name
 abbrev pub row_in : List Row → CommandName → Row
-row_in [] name = row name [] topics.Stickers
+row_in [] name = row name [] (topics.Stickers stickers.Sticker)
 row_in (row ∷ rows) name = if place_of row.name == place_of name then row else row_in rows name
 
 abbrev pub name_text : CommandName → List ℕ

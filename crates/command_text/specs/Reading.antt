@@ -44,7 +44,7 @@ command_with profile (topics.Database name) words = database_of profile name wor
 command_with profile (topics.Queue name) words = queue_of profile name words >>= λ x. Ok (commands.Queue x)
 command_with profile (topics.Finding name) words = finding_of profile name words >>= λ x. Ok (commands.Finding x)
 command_with profile (topics.Lists name) words = lists_of profile name words >>= λ x. Ok (commands.Lists x)
-command_with profile topics.Stickers words = stickers_of words >>= λ x. Ok (commands.Stickers x)
+command_with profile (topics.Stickers name) words = stickers_of name words >>= λ x. Ok (commands.Stickers x)
 command_with profile (topics.Messages name) words = messages_of name words >>= λ x. Ok (commands.Messages x)
 command_with profile (topics.Playing name) words = playing_of name words >>= λ x. Ok (commands.Playing x)
 command_with profile (topics.Session name) words = session_of name words >>= λ x. Ok (commands.Session x)
@@ -121,7 +121,7 @@ takes_memory (topics.Database name) = keeps_place name
 takes_memory (topics.Queue name) = keeps_many name
 takes_memory (topics.Finding name) = true
 takes_memory (topics.Lists name) = false
-takes_memory topics.Stickers = false
+takes_memory (topics.Stickers name) = false
 takes_memory (topics.Messages name) = false
 takes_memory (topics.Playing name) = false
 takes_memory (topics.Session name) = false

@@ -7,6 +7,8 @@ use Rattle.command_text.specs.declared.command.sticker.ValueBound.{ValueBound}
 use Rattle.command_text.specs.declared.command.sticker.ValueBound.TheVariants.{Any, Equal, Less, Greater}
 use Rattle.command_text.specs.declared.refusal.CommandRefusal.{CommandRefusal}
 use Rattle.command_text.specs.declared.refusal.CommandRefusal.TheVariants.{WrongCount, BadArgument}
+use Rattle.command_text.specs.declared.topic.StickersName.{StickersName}
+use Rattle.command_text.specs.declared.topic.StickersName.TheVariants as names
 use Rattle.command_text.specs.Arguments.{text_of}
 use Rattle.command_text.specs.Counts.{◌>>=◌, Word, argument}
 use Rattle.command_text.specs.NameArguments.{sticker_name, sticker_value}
@@ -70,6 +72,9 @@ form_of form words =
     else (if bytes_eq form (codes "find") then find_of words else Err (BadArgument 1)))))
 
 -- with two to five words behind the form's
-abbrev pub stickers_of : List Word → Result StickersCommand CommandRefusal
-stickers_of [] = Err WrongCount
-stickers_of (form ∷ words) = if nat_le 2 (length words) && nat_le (length words) 5 then form_of form words else Err WrongCount
+abbrev pub sticker_of : List Word → Result StickersCommand CommandRefusal
+sticker_of [] = Err WrongCount
+sticker_of (form ∷ words) = if nat_le 2 (length words) && nat_le (length words) 5 then form_of form words else Err WrongCount
+
+abbrev pub stickers_of : StickersName → List Word → Result StickersCommand CommandRefusal
+stickers_of names.Sticker words = sticker_of words

@@ -181,7 +181,7 @@ fn with<'w>(
         Topic::Queue(name) => Ok(Command::Queue(queue::read(alloc, profile, name, words)?)),
         Topic::Finding(name) => Ok(Command::Finding(finding::read(alloc, profile, name, words)?)),
         Topic::Lists(name) => Ok(Command::Lists(lists::read(profile, name, words)?)),
-        Topic::Stickers => Ok(Command::Stickers(sticker::read(words)?)),
+        Topic::Stickers(name) => Ok(Command::Stickers(sticker::read(name, words)?)),
         Topic::Messages(name) => Ok(Command::Messages(messages::read(name, words)?)),
         Topic::Playing(name) => Ok(Command::Playing(playing::read(name, words)?)),
         Topic::Session(name) => Ok(Command::Session(session::read(name, words)?)),

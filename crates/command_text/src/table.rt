@@ -12,7 +12,7 @@ use crate::topic::Topic::{
 };
 use crate::topic::{
     DatabaseName, FindingName, ListsName, MessagesName, PicturesName, PlayingName, QueueName,
-    SessionName, SettingsName, SetupName,
+    SessionName, SettingsName, SetupName, StickersName,
 };
 use profile::Profile::{self, Named, Wide};
 
@@ -501,7 +501,12 @@ const ROWS: &[Row] = &[
         Settings(SettingsName::Status),
         Named,
     ),
-    (CommandName::Sticker, "sticker", Stickers, Named),
+    (
+        CommandName::Sticker,
+        "sticker",
+        Stickers(StickersName::Sticker),
+        Named,
+    ),
     (CommandName::Stop, "stop", Playing(PlayingName::Stop), Named),
     (
         CommandName::Subscribe,

@@ -12,7 +12,7 @@ pub(crate) enum Topic {
     Session(SessionName),
     Setup(SetupName),
     Pictures(PicturesName),
-    Stickers,
+    Stickers(StickersName),
     Messages(MessagesName),
 }
 
@@ -92,6 +92,11 @@ pub(crate) enum ListsName {
     Rename,
     Remove,
     Save,
+}
+
+#[derive(Clone, Copy)]
+pub(crate) enum StickersName {
+    Sticker,
 }
 
 #[derive(Clone, Copy)]

@@ -16,7 +16,7 @@ use Rattle.command_text.specs.declared.refusal.Refusal.{Refusal}
 use Rattle.command_text.specs.declared.refusal.Refusal.TheVariants.{OfCommand}
 use Rattle.machine_core.specs.Command.{meaning}
 use Rattle.machine_core.specs.Keeping.{keep_ops, keeps, kept, times}
-use Rattle.machine_core.specs.Looks.{looks_of, max_looks, weighed}
+use Rattle.machine_core.specs.Looks.{looks_of, may_look, weighed}
 use Rattle.machine_core.specs.Meaning.{Meaning, Meant}
 use Rattle.machine_core.specs.Room.{under_room}
 use Rattle.machine_core.specs.Size.{longest_keep, max_request_bytes, room_by, within, within_room, time_room}
@@ -93,10 +93,10 @@ both_ok : (spent : Spent) (command : Command) (m : MachineState) (x : Meaning) �
     (kept m (under_room m (meaning spent.view.tags command m)) ≡ Ok x) × Fits m.saved.profile spent.size x
 both_ok spent command m x h =
     let meant : Meant = meaning spent.view.tags command m in
-    let light_of : Meant = weighed spent.looks (looks_of command m) (under_room m meant) in
+    let light_of : Meant = weighed m.saved.profile spent.looks (looks_of command m) (under_room m meant) in
     let y = kept_is m (within_room m.saved.profile spent.size light_of) x h in
     let parts = room_ok m.saved.profile spent.size light_of y.0 y.1 in (
-      ap (kept m) (light (under_room m meant) y.0 (nat_le (spent.looks + looks_of command m) max_looks) parts.0) ∙ ap says_so y.2,
+      ap (kept m) (light (under_room m meant) y.0 (may_look m.saved.profile spent.looks (looks_of command m)) parts.0) ∙ ap says_so y.2,
       subst (Fits m.saved.profile spent.size) y.2 (times_fit spent.size m (keeps m y.0) (keeps_fit spent.size m y.0 parts.1)),
     )
 

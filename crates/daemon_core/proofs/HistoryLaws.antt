@@ -19,7 +19,7 @@ use Rattle.daemon_core.specs.Agreement.{Rises, Agree, AgreeBut}
 use Rattle.daemon_core.specs.Pending.{Moment, connects, is_pending, news, pending_of, with_news}
 use Rattle.daemon_core.specs.Replay.{Entry, stepped, replay, moments, moment_of, report_if, reported_by, told_waiting, reply}
 use Rattle.daemon_core.specs.Run.{Ran, ran}
-use Rattle.daemon_core.specs.Session.{Acted, of_ran, runs, output, happened}
+use Rattle.daemon_core.specs.Session.{Acted, of_ran, runs, happened}
 use Rattle.daemon_core.specs.State.{State}
 use Rattle.machine_core.specs.Happening.{Happening}
 use Rattle.machine_core.specs.Keeping.{kept_event, when_kept, when_resumed}

@@ -1,4 +1,4 @@
--- What an event looks at is within the limit on a request.
+-- What an event counts as looking at is within the limit on a request.
 use Rattle.std.proofs.Common.{◌≡◌, ◌≤◌, ◌+◌, ℕ, suc, Bool, true, false, List, [], ◌∷◌, Option, Some, None, cond, refl, arith}
 use Rattle.std.proofs.lemmas.Bool.{leb-true}
 use Rattle.std.specs.Prelude.{nat_le}
@@ -12,6 +12,8 @@ use Rattle.idle_masks.specs.declared.subsystem.Subsystems.{Subsystems}
 use Rattle.idle_masks.specs.declared.watch.Watched.{Watched}
 use Rattle.machine_core.specs.Looks.{looked, max_looks}
 use Rattle.machine_core.specs.State.{MachineState}
+use Rattle.profile.specs.declared.profile.Profile.{Profile}
+use Rattle.profile.specs.declared.profile.Profile.TheVariants.{Named, Wide}
 use Rattle.state_codec.specs.declared.op.Op.{Op}
 use Rattle.daemon_core.specs.Run.{Asker, Did, Goes, Refuses, Ends, Ran, Spent, attempted, follow, is_refused_at, looks_of_line, ran, spent_behind}
 use Rattle.daemon_core.specs.Run.{spent_on, wants_memory}
@@ -27,8 +29,9 @@ either_within : (b : Bool) (n m most : ℕ) → (b ≡ true → n ≤ most) → 
 either_within true n m most first second = first refl
 either_within false n m most first second = second
 
-looked_within : (before looks : ℕ) → before ≤ max_looks → looked before looks ≤ max_looks
-looked_within before looks within = either_within (nat_le (before + looks) max_looks) (before + looks) before max_looks
+looked_within : (profile : Profile) (before looks : ℕ) → before ≤ max_looks → looked profile before looks ≤ max_looks
+looked_within Named before looks within = omega (arith, within)
+looked_within Wide before looks within = either_within (nat_le (before + looks) max_looks) (before + looks) before max_looks
     (λ is. leb-true (before + looks) max_looks is) within
 
 -- the rest of a request keeps within the limit where what was spent before it does
@@ -55,7 +58,7 @@ ran_within c place separator refused index spent [] m within = within
 ran_within c place separator refused index spent (line ∷ lines) m within =
     unless_refused spent m index line _ (is_refused_at refused index)
     (follow_within separator index (spent_behind place line m spent) m (λ n t. ran c place separator refused (suc index) n lines t)
-    (attempted c place spent line m) (λ ops. looked_within spent.looks (looks_of_line place line m) within)
+    (attempted c place spent line m) (λ ops. looked_within m.saved.profile spent.looks (looks_of_line place line m) within)
     (λ n t fits. ran_within c place separator refused (suc index) n lines t fits))
 
 of_ran_within : (c : ℕ) (s : State) (r : Ran) (ending : Ending) → r.looks ≤ max_looks → let a = of_ran c s r ending in a.looks ≤ max_looks

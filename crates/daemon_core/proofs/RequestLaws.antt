@@ -28,28 +28,31 @@ use Rattle.command_text.specs.declared.refusal.Refusal.TheVariants.{OfCommand}
 use Rattle.daemon_core.specs.declared.view.View.{View}
 use Rattle.idle_masks.specs.Subsystems.{contains, none, union}
 use Rattle.idle_masks.specs.declared.subsystem.Subsystems.{Subsystems}
+use Rattle.machine_core.proofs.Fronts.{cut_shorter, cut_told, more_told}
 use Rattle.machine_core.specs.Changed.{changed}
 use Rattle.machine_core.specs.Command.{meaning}
+use Rattle.machine_core.specs.Front.{SameFront, front_of}
 use Rattle.machine_core.specs.Looks.{looked, looks_of, max_looks, settings_looks, weighed}
 use Rattle.machine_core.specs.Meaning.{Meaning, Meant}
 use Rattle.machine_core.specs.Keeping.{kept}
 use Rattle.machine_core.specs.Room.{under_room}
 use Rattle.machine_core.specs.Size.{within_room}
 use Rattle.machine_core.specs.State.{MachineState}
-use Rattle.machine_core.specs.Work.{AddsNothing, AddsText, FailedKept, HasRoom, IsKeptRefusalOf, PerformsKept, WentKept, ack_room}
+use Rattle.machine_core.specs.Work.{AddsNothing, AddsText, FailedKept, HasRoom, IsCut, IsKeptRefusalOf, PerformsKept, TellsText, WentKept, ack_room}
 use Rattle.machine_core.specs.declared.work.Failure.{Failure}
 use Rattle.machine_core.specs.declared.work.Failure.TheVariants as failures
 use Rattle.machine_core.specs.declared.work.Work.{Work}
 use Rattle.profile.specs.declared.profile.Profile.{Profile}
+use Rattle.profile.specs.declared.profile.Profile.TheVariants.{Named, Wide}
 use Rattle.state_codec.specs.Sealed.{checksum_len}
 use Rattle.state_codec.specs.Spelling.{ops_bytes}
 use Rattle.state_codec.specs.declared.op.Op.{Op}
 use Rattle.daemon_core.specs.Handled.{Does}
 use Rattle.daemon_core.specs.Parts.{state_of}
 use Rattle.daemon_core.specs.Request.{stop_of_reading, ran_of, IsPerformed, IsNotPerformed, IsRefusalBy, RunsCommand, WentOn, IsStop}
-use Rattle.daemon_core.specs.Request.{Stopped, RunsLine, AnswersStop}
+use Rattle.daemon_core.specs.Request.{Stopped, RunsLine, AnswersStop, TellsNothing}
 use Rattle.daemon_core.specs.Request.{CountsLooks, RunsLines, HasView, looks_at_end, view_at_end}
-use Rattle.daemon_core.specs.Session.{of_ran, runs}
+use Rattle.daemon_core.specs.Session.{of_ran, output, ran_silently, runs, seeing, talked_in, untold}
 use Rattle.daemon_core.specs.Run.{Asker, own_of, Did, Done, Goes, Refuses, Ends, ending_of, did_of, unless_it_ends, performed, read_and_performed}
 use Rattle.daemon_core.specs.Run.{attempted, done_by, done_of, either_does, machine_does, talk_does, talk_done}
 use Rattle.daemon_core.specs.Run.{Ran, ends, wants_memory, preceded, follow, is_refused_at, ran, session_ending, settings_ending}
@@ -58,6 +61,7 @@ use Rattle.daemon_core.specs.Views.{view_behind}
 use Rattle.daemon_core.specs.declared.picture.ClientPicture.{ClientPicture}
 use Rattle.daemon_core.specs.Run.{within_both}
 use Rattle.daemon_core.specs.Seen.{view_of}
+use Rattle.daemon_core.specs.State.{State}
 use Rattle.daemon_core.specs.Step.{asking, begun}
 use Rattle.daemon_core.specs.Talk.{Talk, talk_of, talked}
 use Rattle.daemon_core.specs.Talking.{IsSame, IsTalkRefusal, RunsTalk}
@@ -74,17 +78,37 @@ use Rattle.daemon_core.specs.declared.request.Stop.TheVariants as stops
 use Rattle.daemon_core.proofs.PendingLaws.{contains-set_of, set_ext, union_assoc}
 use Rattle.daemon_core.proofs.ReachedLaws.{of_ran_place}
 
--- Room that was taken before changes nothing.
-nothing_from : (before mid after : Work) → AddsNothing before mid → AddsNothing mid after → AddsNothing before after
+-- what adds nothing tells nothing, and neither does a cut
+pub nothing_told_of : (before after : Work) → AddsNothing before after → TellsNothing before after
+nothing_told_of before after nothing = record {
+  text = ap front_of nothing.text;
+  shorter = omega (arith, ap length nothing.text, before.text.ok.0, after.text.ok.0);
+  room = nothing.room;
+  ops = nothing.ops;
+  size = nothing.size;
+}
+
+pub cut_tells_nothing : (before after : Work) → IsCut before after → TellsNothing before after
+cut_tells_nothing before after cut = record {
+  text = ap front_of cut.text ∙ cut_told before.text.items;
+  shorter = omega (arith, ap length cut.text, cut_shorter before.text.items, before.text.ok.0, after.text.ok.0);
+  room = cut.room;
+  ops = cut.ops;
+  size = cut.size;
+}
+
+-- Room that was taken before tells nothing.
+nothing_from : (before mid after : Work) → TellsNothing before mid → TellsNothing mid after → TellsNothing before after
 nothing_from before mid after first second = record {
   text = second.text ∙ first.text;
+  shorter = omega (arith, first.shorter, second.shorter);
   room = omega (arith, first.room, second.room);
   ops = second.ops ∙ first.ops;
   size = second.size ∙ first.size;
 }
 
 pub runs_from : (between : List ℕ) (did : Did) (s t : MachineState) (talks talked : Talks) (before mid after : Work)
-    (r : Result Subsystems Stop) → AddsNothing before mid → RunsLine between did s t talks talked mid after r →
+    (r : Result Subsystems Stop) → TellsNothing before mid → RunsLine between did s t talks talked mid after r →
     RunsLine between did s t talks talked before after r
 runs_from between did s t talks talked before mid after (Ok set) nothing h = let x : Done = h.what in record {
   what = x;
@@ -92,7 +116,7 @@ runs_from between did s t talks talked before mid after (Ok set) nothing h = let
   stands = h.stands;
   messages = h.messages;
   notified = h.notified;
-  text = h.text ∙ ap (λ y. y ++ (x.text ++ between)) nothing.text;
+  text = h.text ∙ more_told mid.text.items before.text.items (x.text ++ between) nothing.text;
   ops = h.ops ∙ ap (λ y. y ++ x.ops) nothing.ops;
   size = h.size ∙ ap (λ n. n + length (ops_bytes s.saved.profile x.ops)) nothing.size;
   changed = h.changed;
@@ -151,7 +175,7 @@ machine_is c spent command m meant other same =
 
 pub machine_performs : (c : Asker) (command : Command) (s t : MachineState) (talks : Talks) (before after : Work) (looks : ℕ) (view : View)
     (set : Subsystems) → own_of c (spent_of before.size looks view talks.messages) command s ≡ None →
-    WentKept s.saved.profile (kept s (within_room s.saved.profile before.size (weighed looks (looks_of command s)
+    WentKept s.saved.profile (kept s (within_room s.saved.profile before.size (weighed s.saved.profile looks (looks_of command s)
     (under_room s (meaning view.tags command s))))) t before after → set ≡ changed s t →
     IsPerformed (done_by c (spent_of before.size looks view talks.messages) command s) s t talks talks before after set
 machine_performs c command s t talks before after looks view set other went same =
@@ -172,7 +196,7 @@ machine_performs c command s t talks before after looks view set other went same
 
 machine_refused : (c : Asker) (command : Command) (s : MachineState) (talks : Talks) (size looks : ℕ) (view : View) (failure : Failure) →
     own_of c (spent_of size looks view talks.messages) command s ≡ None →
-    IsKeptRefusalOf s.saved.profile (weighed looks (looks_of command s) (under_room s (meaning view.tags command s))) size failure →
+    IsKeptRefusalOf s.saved.profile (weighed s.saved.profile looks (looks_of command s) (under_room s (meaning view.tags command s))) size failure →
     IsRefusalBy (done_by c (spent_of size looks view talks.messages) command s) failure
 machine_refused c command s talks size looks view (failures.Refused refusal) other h =
     machine_is c (spent_of size looks view talks.messages) command s (Err refusal) other (ap (kept s) h)
@@ -180,7 +204,7 @@ machine_refused c command s talks size looks view failures.NoMemory other h = tt
 
 pub machine_fails : (c : Asker) (command : Command) (s t : MachineState) (talks : Talks) (before after : Work) (looks : ℕ) (view : View)
     (failure : Failure) → own_of c (spent_of before.size looks view talks.messages) command s ≡ None →
-    FailedKept (weighed looks (looks_of command s) (under_room s (meaning view.tags command s))) s t before after failure →
+    FailedKept (weighed s.saved.profile looks (looks_of command s) (under_room s (meaning view.tags command s))) s t before after failure →
     IsNotPerformed (done_by c (spent_of before.size looks view talks.messages) command s) s t talks talks before after failure
 machine_fails c command s t talks before after looks view failure other failed = record {
   stands = failed.state;
@@ -191,7 +215,7 @@ machine_fails c command s t talks before after looks view failure other failed =
 
 pub machine_runs : (c : Asker) (command : Command) (s t : MachineState) (talks : Talks) (before after : Work) (looks : ℕ) (view : View)
     (r : Result Subsystems Failure) → own_of c (spent_of before.size looks view talks.messages) command s ≡ None →
-    PerformsKept (weighed looks (looks_of command s) (under_room s (meaning view.tags command s))) s t before after r →
+    PerformsKept (weighed s.saved.profile looks (looks_of command s) (under_room s (meaning view.tags command s))) s t before after r →
     IfOk r (λ set. set ≡ changed s t) →
     RunsCommand (done_by c (spent_of before.size looks view talks.messages) command s) s t talks talks before after r
 machine_runs c command s t talks before after looks view (Ok set) other went same =
@@ -327,7 +351,7 @@ pub record SoFar
   pub text : List ℕ
   pub made : List Op
   pub told : List ℕ
-  pub written : now.text.items ≡ before.text.items ++ text
+  pub written : SameFront now.text.items (before.text.items ++ text)
   pub ops : now.ops.items ≡ before.ops.items ++ made
   pub notified : talked.notified.items ≡ talks.notified.items ++ told
   pub room : HasRoom ack_room now
@@ -343,7 +367,7 @@ so_far_begins c place between lines first talks before start room = record {
   text = [];
   made = [];
   told = [];
-  written = sym (append-nil before.text.items);
+  written = ap front_of (sym (append-nil before.text.items));
   ops = sym (append-nil before.ops.items);
   notified = sym (append-nil talks.notified.items);
   room = room;
@@ -379,7 +403,7 @@ pub so_far_goes : (c : Asker) (place : Place) (between : List ℕ) (lines rest :
     (changes set : Subsystems) →
     SoFar c place between lines (line ∷ rest) index first s talks talked before now looks start view changes →
     WentOn between (attempted c place (spent_of now.size looks view talked.messages) line s) s t talked done now after set →
-    more ≡ looked looks (looks_of_line place line s) → behind ≡ view_of_line place line s view →
+    more ≡ looked s.saved.profile looks (looks_of_line place line s) → behind ≡ view_of_line place line s view →
     SoFar c place between lines rest (suc index) first t talks done before after more start behind (union changes set)
 so_far_goes c place between lines rest line index first s t talks talked done before now after looks more start view behind changes set far
     went counted seen =
@@ -389,8 +413,8 @@ so_far_goes c place between lines rest line index first s t talks talked done be
       text = far.text ++ (x.text ++ between);
       made = far.made ++ x.ops;
       told = far.told ++ x.notified;
-      written = went.text ∙ ap (λ y. y ++ (x.text ++ between)) far.written
-          ∙ append_assoc before.text.items far.text (x.text ++ between);
+      written = went.text ∙ more_told now.text.items (before.text.items ++ far.text) (x.text ++ between) far.written
+          ∙ ap front_of (append_assoc before.text.items far.text (x.text ++ between));
       ops = went.ops ∙ ap (λ y. y ++ x.ops) far.ops ∙ append_assoc before.ops.items far.made x.ops;
       notified = went.notified ∙ ap (λ y. y ++ x.notified) far.notified ∙ append_assoc talks.notified.items far.told x.notified;
       room = went.room;
@@ -421,7 +445,7 @@ pub record StopsIt
 pub stops_it : (c : Asker) (place : Place) (between line : List ℕ) (rest : List (List ℕ)) (index : ℕ) (spent : Spent) (s : MachineState)
     (stop : Stop) (refused : Option ℕ) (ending : Ending) (looks : ℕ) (view : View) (work done : Work)
     → IsStop (attempted c place spent line s) stop
-    → CountsLooks (looked spent.looks (looks_of_line place line s)) looks (Err stop)
+    → CountsLooks (looked s.saved.profile spent.looks (looks_of_line place line s)) looks (Err stop)
     → HasView (view_of_line place line s spent.view) view (Err stop)
     → AnswersStop s.saved.profile stop index line refused ending work done
     → StopsIt c place between line rest index spent s refused ending (looks_at_end refused looks)
@@ -464,13 +488,17 @@ abbrev end_of : Ending → Subsystems → Option ℕ → ℕ → View → Reques
 end_of ending changes refused looks view =
     record { ending = ending; changed = changes; refused_at = refused; looks = looks; view = view }
 
+-- what was added is told
+told_of_adds : (more : List ℕ) (before after : Work) → AddsText more before after → TellsText more before after
+told_of_adds more before after adds = record { text = ap front_of adds.text; ops = adds.ops; size = adds.size }
+
 -- the request has ended
 ran_ends : (c : Asker) (place : Place) (between : List ℕ) (lines rest : List (List ℕ)) (index : ℕ) (first s : MachineState)
     (talks talked : Talks) (before now after : Work) (looks all : ℕ) (start view seen : View) (changes : Subsystems)
     (refused : Option ℕ) (text : List ℕ) (ending : Ending) →
     SoFar c place between lines rest index first s talks talked before now looks start view changes → NotBefore index refused →
     ran c place between refused index (spent_of now.size looks view talked.messages) rest s
-    ≡ record (ends s (spent_of 0 all seen talked.messages) text ending) { refused_at = refused } → AddsText text now after →
+    ≡ record (ends s (spent_of 0 all seen talked.messages) text ending) { refused_at = refused } → TellsText text now after →
     IfSome refused (λ at. at < length lines) →
     RunsLines c place between start lines first s talks talked before after (end_of ending changes refused all seen)
 ran_ends c place between lines rest index first s talks talked before now after looks all start view seen changes refused text ending far
@@ -481,8 +509,8 @@ ran_ends c place between lines rest index first s talks talked before now after 
     far.whole refused later ∙ ap (preceded far.text changes far.made far.told) ended in
     record {
       stands = sym (ap (λ r. r.after) whole);
-      text = adds.text ∙ ap (λ x. x ++ text) far.written ∙ append_assoc before.text.items far.text text
-          ∙ sym (ap (λ r. before.text.items ++ r.text) whole);
+      text = adds.text ∙ more_told now.text.items (before.text.items ++ far.text) text far.written
+          ∙ ap front_of (append_assoc before.text.items far.text text ∙ sym (ap (λ r. before.text.items ++ r.text) whole));
       ops = adds.ops ∙ far.ops
           ∙ sym (ap (λ r. before.ops.items ++ r.ops) whole ∙ ap (λ x. before.ops.items ++ x) (append-nil far.made));
       changed = sym (ap (λ r. r.changed) whole ∙ union_none_right changes);
@@ -525,7 +553,7 @@ pub ran_stops : (c : Asker) (place : Place) (between : List ℕ) (lines whole re
     (start view behind seen : View) (changes : Subsystems) (stop : Stop) (refused : Option ℕ) (ending : Ending) → whole ≡ bytes ∷ rest
     → SoFar c place between lines whole index first s talks talked before now looks start view changes →
     Stopped (attempted c place (spent_of now.size looks view talked.messages) bytes s) s t talked last now mid stop →
-    CountsLooks (looked looks (looks_of_line place bytes s)) more (Err stop) → all ≡ looks_at_end refused more →
+    CountsLooks (looked s.saved.profile looks (looks_of_line place bytes s)) more (Err stop) → all ≡ looks_at_end refused more →
     HasView (view_of_line place bytes s view) behind (Err stop) → seen ≡ view_at_end refused view behind →
     AnswersStop t.saved.profile stop index bytes refused ending mid after →
     RunsLines c place between start lines first t talks last before after (end_of ending changes refused all seen)
@@ -545,7 +573,7 @@ ran_stops c place between lines whole rest bytes index first s t talks talked la
     it.text ending far it.later
     (it.same ∙ (λ i. record (ends s (spent_of 0 (sym is i) (sym at_end i) talked.messages) it.text ending) { refused_at = refused }))
     (record {
-      text = adds.text ∙ ap (λ x. x ++ it.text) nothing.text;
+      text = ap front_of adds.text ∙ more_told mid.text.items now.text.items it.text nothing.text;
       ops = adds.ops ∙ nothing.ops;
       size = adds.size ∙ nothing.size;
     })
@@ -556,7 +584,7 @@ pub ran_goes : (c : Asker) (place : Place) (between : List ℕ) (lines whole res
     (changes set : Subsystems) → whole ≡ bytes ∷ rest →
     SoFar c place between lines whole index first s talks talked before now looks start view changes →
     WentOn between (attempted c place (spent_of now.size looks view talked.messages) bytes s) s t talked done now after set →
-    more ≡ looked looks (looks_of_line place bytes s) → behind ≡ view_of_line place bytes s view →
+    more ≡ looked s.saved.profile looks (looks_of_line place bytes s) → behind ≡ view_of_line place bytes s view →
     SoFar c place between lines rest (index + 1) first t talks done before after more start behind (union changes set)
 ran_goes c place between lines whole rest bytes index first s t talks talked done before now after looks more start view behind changes set
     parts far h counted seen =
@@ -576,7 +604,7 @@ pub ran_all : (c : Asker) (place : Place) (between : List ℕ) (lines rest : Lis
 ran_all c place between lines [] index first s talks talked before now after looks all start view changes empty far is h =
     ran_ends c place between lines [] index first s talks talked before now after looks all start view view changes None ok Answered far tt
     (next_none c place between index (spent_of now.size looks view talked.messages) s
-    ∙ (λ i. ends s (spent_of 0 (sym is i) view talked.messages) ok Answered)) h tt
+    ∙ (λ i. ends s (spent_of 0 (sym is i) view talked.messages) ok Answered)) (told_of_adds ok now after h) tt
 ran_all c place between lines (r ∷ rest) index first s talks talked before now after looks all start view changes empty far is h = cc
 
 -- a command that went well, and what stands behind it
@@ -593,7 +621,8 @@ went_on c spent named separator s t talks talked before mid after set went is ad
       stands = went.stands;
       messages = went.messages;
       notified = went.notified;
-      text = adds.text ∙ ap (λ y. y ++ separator) went.text ∙ append_assoc before.text.items x.text separator;
+      text = ap front_of adds.text ∙ more_told mid.text.items (before.text.items ++ x.text) separator went.text
+          ∙ ap front_of (append_assoc before.text.items x.text separator);
       ops = adds.ops ∙ went.ops;
       size = adds.size ∙ went.size;
       changed = went.changed;
@@ -620,13 +649,14 @@ command_stop c place spent line words slice m errors.NoMemory stop parted same r
 -- a command that was read runs as its line does, and looks at what its line looks at
 pub line_runs : (c : Asker) (place : Place) (between line : List ℕ) (words slice : List (List ℕ)) (named : NamedCommand) (s t : MachineState)
     (talks talked : Talks) (before mid after : Work) (looks : ℕ) (view : View) (r : Result Subsystems Stop) →
-    line_words line ≡ Ok words → slice ≡ words → command_of s.saved.profile place slice ≡ Ok named → AddsNothing before mid →
+    line_words line ≡ Ok words → slice ≡ words → command_of s.saved.profile place slice ≡ Ok named → IsCut before mid →
     RunsLine between (performed c (spent_of mid.size looks view talks.messages) named s) s t talks talked mid after r →
     RunsLine between (attempted c place (spent_of before.size looks view talks.messages) line s) s t talks talked before after r
-line_runs c place between line words slice named s t talks talked before mid after looks view r parted same read nothing h =
-    runs_from between (attempted c place (spent_of before.size looks view talks.messages) line s) s t talks talked before mid after r nothing
+line_runs c place between line words slice named s t talks talked before mid after looks view r parted same read cut h =
+    runs_from between (attempted c place (spent_of before.size looks view talks.messages) line s) s t talks talked before mid after r
+    (cut_tells_nothing before mid cut)
     (subst (λ did. RunsLine between did s t talks talked mid after r)
-    (ap (λ n. performed c (spent_of n looks view talks.messages) named s) nothing.size
+    (ap (λ n. performed c (spent_of n looks view talks.messages) named s) cut.size
     ∙ read_performed c place (spent_of before.size looks view talks.messages) line slice s named (parted ∙ ap Ok (sym same)) read) h)
 
 pub line_looks : (place : Place) (line : List ℕ) (words slice : List (List ℕ)) (named : NamedCommand) (m : MachineState) →
@@ -636,12 +666,12 @@ unfolding looks_of_line line_reading
 line_looks place line words slice named m parted same read =
     sym (ap (λ w. looks_read (command_in m.saved.profile place w) m) (parted ∙ ap Ok (sym same)) ∙ ap (λ r. looks_read r m) read)
 
-pub looks_counted : {n m : ℕ} (r : Result Subsystems Stop) (looks more : ℕ) → n ≡ m → more ≡ looked looks n →
-    CountsLooks (looked looks m) more r
-looks_counted (Ok set) looks more same h = h ∙ ap (looked looks) same
-looks_counted (Err (stops.Ends ending)) looks more same h = h ∙ ap (looked looks) same
-looks_counted (Err (stops.Refused refusal)) looks more same h = h ∙ ap (looked looks) same
-looks_counted (Err stops.NoMemory) looks more same h = tt
+pub looks_counted : {n m : ℕ} (profile : Profile) (r : Result Subsystems Stop) (looks more : ℕ) → n ≡ m → more ≡ looked profile looks n →
+    CountsLooks (looked profile looks m) more r
+looks_counted profile (Ok set) looks more same h = h ∙ ap (looked profile looks) same
+looks_counted profile (Err (stops.Ends ending)) looks more same h = h ∙ ap (looked profile looks) same
+looks_counted profile (Err (stops.Refused refusal)) looks more same h = h ∙ ap (looked profile looks) same
+looks_counted profile (Err stops.NoMemory) looks more same h = tt
 
 -- the same of the view that its client sees behind it
 pub line_view : (place : Place) (line : List ℕ) (words slice : List (List ℕ)) (named : NamedCommand) (m : MachineState) (view : View) →
@@ -662,8 +692,9 @@ cond_same : (b : Bool) (n m : ℕ) → m ≡ n → m ≡ cond b n m
 cond_same true n m same = same
 cond_same false n m same = refl
 
-looked_none : (looks n : ℕ) → n ≡ 0 → looks ≡ looked looks n
-looked_none looks n none = cond_same (nat_le (looks + n) max_looks) (looks + n) looks (omega (arith, none))
+pub looked_none : (profile : Profile) (looks n : ℕ) → n ≡ 0 → looks ≡ looked profile looks n
+looked_none Named looks n none = omega (arith, none)
+looked_none Wide looks n none = cond_same (nat_le (looks + n) max_looks) (looks + n) looks (omega (arith, none))
 
 abbrev LooksIfEnding : Option Ending → ℕ → Type 0
 LooksIfEnding None looks = Unit {0}
@@ -685,15 +716,15 @@ command_end (commands.Session command) m = session_end command
 command_end other m = tt
 
 pub end_counts : (command : Command) (m : MachineState) (ending : Ending) (looks : ℕ) → ending_of command ≡ Some ending →
-    looks ≡ looked looks (looks_of command m)
+    looks ≡ looked m.saved.profile looks (looks_of command m)
 end_counts command m ending looks is =
-    looked_none looks (looks_of command m) (subst (λ o. LooksIfEnding o (looks_of command m)) is (command_end command m))
+    looked_none m.saved.profile looks (looks_of command m) (subst (λ o. LooksIfEnding o (looks_of command m)) is (command_end command m))
 
 unread_counts : (place : Place) (line : List ℕ) (m : MachineState) (refusal : Refusal) (looks : ℕ) →
-    line_reading m.saved.profile place line ≡ Err refusal → looks ≡ looked looks (looks_of_line place line m)
+    line_reading m.saved.profile place line ≡ Err refusal → looks ≡ looked m.saved.profile looks (looks_of_line place line m)
 unfolding looks_of_line
 unread_counts place line m refusal looks read =
-    looked_none looks (looks_of_line place line m) (ap (λ r. looks_read r m) read)
+    looked_none m.saved.profile looks (looks_of_line place line m) (ap (λ r. looks_read r m) read)
 
 words_unread : (profile : Profile) (place : Place) (line : List ℕ) (refusal : Refusal) → line_words line ≡ Err refusal
     → line_reading profile place line ≡ Err refusal
@@ -707,9 +738,9 @@ command_unread profile place line words refusal parted read = ap (command_in pro
 
 stop_counts : (place : Place) (line : List ℕ) (m : MachineState) (refusal : Refusal) (stop : Stop) (looks : ℕ) →
     line_reading m.saved.profile place line ≡ Err refusal → stop ≡ stops.Refused refusal →
-    CountsLooks (looked looks (looks_of_line place line m)) looks (Err stop)
+    CountsLooks (looked m.saved.profile looks (looks_of_line place line m)) looks (Err stop)
 stop_counts place line m refusal stop looks read is =
-    subst (λ (it : Stop). CountsLooks (looked looks (looks_of_line place line m)) looks (Err it)) (sym is)
+    subst (λ (it : Stop). CountsLooks (looked m.saved.profile looks (looks_of_line place line m)) looks (Err it)) (sym is)
     (unread_counts place line m refusal looks read)
 
 unread_view : (place : Place) (line : List ℕ) (m : MachineState) (refusal : Refusal) (view : View) →
@@ -738,21 +769,21 @@ command_view place line words slice m errors.NoMemory stop view parted same read
 
 pub words_count : (place : Place) (line : List ℕ) (m : MachineState) (error : ReadError) (stop : Stop) (looks : ℕ) →
     GivesWords (Err error) (line_words line) → stop ≡ stop_of_reading error →
-    CountsLooks (looked looks (looks_of_line place line m)) looks (Err stop)
+    CountsLooks (looked m.saved.profile looks (looks_of_line place line m)) looks (Err stop)
 words_count place line m (errors.Refused refusal) stop looks read is =
     stop_counts place line m refusal stop looks (words_unread m.saved.profile place line refusal read) is
 words_count place line m errors.NoMemory stop looks read is =
-    subst (λ (it : Stop). CountsLooks (looked looks (looks_of_line place line m)) looks (Err it)) (sym is) tt
+    subst (λ (it : Stop). CountsLooks (looked m.saved.profile looks (looks_of_line place line m)) looks (Err it)) (sym is) tt
 
 pub command_counts : (place : Place) (line : List ℕ) (words slice : List (List ℕ)) (m : MachineState) (error : ReadError) (stop : Stop)
     (looks : ℕ) → line_words line ≡ Ok words → slice ≡ words → Gives {A = NamedCommand} (Err error)
     (command_of m.saved.profile place slice) →
-    stop ≡ stop_of_reading error → CountsLooks (looked looks (looks_of_line place line m)) looks (Err stop)
+    stop ≡ stop_of_reading error → CountsLooks (looked m.saved.profile looks (looks_of_line place line m)) looks (Err stop)
 command_counts place line words slice m (errors.Refused refusal) stop looks parted same read is =
     stop_counts place line m refusal stop looks (command_unread m.saved.profile place line slice refusal (parted
     ∙ ap Ok (sym same)) read) is
 command_counts place line words slice m errors.NoMemory stop looks parted same read is =
-    subst (λ (it : Stop). CountsLooks (looked looks (looks_of_line place line m)) looks (Err it)) (sym is) tt
+    subst (λ (it : Stop). CountsLooks (looked m.saved.profile looks (looks_of_line place line m)) looks (Err it)) (sym is) tt
 
 -- What a request that ran makes of the clients doesn't hang on the machine and the messages before it.
 of_ran_same : (c : ℕ) (clients : List Watched) (views : List ClientView) (messages others : List Listener)
@@ -763,6 +794,15 @@ of_ran_same c clients views messages others pictures m n r Answered = refl
 of_ran_same c clients views messages others pictures m n r Closed = refl
 of_ran_same c clients views messages others pictures m n r Killed = refl
 of_ran_same c clients views messages others pictures m n r (Waits mask) = refl
+
+-- of its answer it makes what is given out
+of_ran_told : (c : ℕ) (s : State) (r : Ran) (text : List ℕ) (ending : Ending) → SameFront r.text text
+    → of_ran c s r ending ≡ of_ran c s (record r { text = text }) ending
+of_ran_told c s r text Answered same =
+    λ i. record (ran_silently (untold c (seeing c r.view (talked_in r s))) r) { answer = output c (same i) ∷ [] }
+of_ran_told c s r text Closed same = refl
+of_ran_told c s r text Killed same = refl
+of_ran_told c s r text (Waits mask) same = refl
 
 -- the lines of a request were run, and its end was made
 pub lines_do : (c : ℕ) (place : Place) (between : List ℕ) (lines : List (List ℕ)) (before mid after : CoreParts) (fresh work : Work)
@@ -778,9 +818,11 @@ lines_do c place between lines before mid after fresh work view end handled text
     let mine : Ran = ran (asking c (state_of before)) place between end.refused_at 0 (spent_of fresh.size 0 view before.talks.messages) lines before.machine in
     let here : mine ≡ r =
     (λ i. ran (asking c (state_of before)) place between end.refused_at 0 (spent_of (size i) 0 (seen i) before.talks.messages) lines before.machine) in
-    let same : ran_of mid.machine mid.talks work end ≡ r = λ i. record {
+    let told : SameFront work.text.items r.text =
+    ran_so.text ∙ ap (λ t. front_of (t ++ mine.text)) text ∙ ap (λ x. front_of x.text) here in
+    let same : record (ran_of mid.machine mid.talks work end) { text = r.text } ≡ r = λ i. record {
       after = (ran_so.stands ∙ ap (λ x. x.after) here) i;
-      text = (ran_so.text ∙ ap (λ t. t ++ mine.text) text ∙ ap (λ x. x.text) here) i;
+      text = r.text;
       changed = (ran_so.changed ∙ ap (λ x. x.changed) here) i;
       ops = (ran_so.ops ∙ ap (λ t. t ++ mine.ops) ops ∙ ap (λ x. x.ops) here) i;
       ending = (ran_so.ending ∙ ap (λ x. x.ending) here) i;
@@ -795,7 +837,8 @@ lines_do c place between lines before mid after fresh work view end handled text
     subst (λ place_at. Does (runs c (state_of before)
     (ran (asking c (state_of before)) place between place_at 0 (begun c (state_of before)) lines before.machine)) after handled) (sym at)
     (subst (λ a. Does a after handled)
-    ((λ i. of_ran c (record { machine = mid.machine; clients = watch i; views = views i; messages = mid.talks.messages; pictures = pictures i }) (same i)
+    (of_ran_told c (state_of mid) (ran_of mid.machine mid.talks work end) r.text end.ending told
+    ∙ (λ i. of_ran c (record { machine = mid.machine; clients = watch i; views = views i; messages = mid.talks.messages; pictures = pictures i }) (same i)
     (same i).ending)
     ∙ of_ran_same c before.watch before.views.list.items mid.talks.messages before.talks.messages before.pictures.list.items mid.machine
     before.machine r r.ending)

@@ -1,5 +1,5 @@
 -- What is told of a picture, or why it isn't.
-use Rattle.std.proofs.Common.{◌≡◌, ℕ, List, [], Option, Some, None, Result, Ok, Err, true, false, refl, sym, ◌∙◌, ap}
+use Rattle.std.proofs.Common.{◌≡◌, ℕ, List, [], Option, Result, Ok, Err, refl, sym, ◌∙◌, ap}
 use Rattle.std.proofs.Common.{subst, arith}
 use Rattle.std.specs.Option.{ok_or}
 use Rattle.std.proofs.lemmas.List.{append-nil}
@@ -7,19 +7,17 @@ use Rattle.command_text.specs.Counts.{◌>>=◌}
 use Rattle.command_text.specs.declared.command.pictures.PicturesCommand.{PicturesCommand}
 use Rattle.command_text.specs.declared.command.pictures.PicturesCommand.TheVariants as commands
 use Rattle.command_text.specs.declared.refusal.CommandRefusal.{CommandRefusal}
-use Rattle.command_text.specs.declared.refusal.CommandRefusal.TheVariants.{NoSuchSong, Setup}
+use Rattle.command_text.specs.declared.refusal.CommandRefusal.TheVariants.{Setup}
 use Rattle.command_text.specs.declared.refusal.SetupRefusal.TheVariants as refusals
 use Rattle.covers.specs.declared.asked.PictureAnswer.{PictureAnswer}
-use Rattle.covers.specs.declared.kind.PictureKind.{PictureKind}
-use Rattle.covers.specs.declared.kind.PictureKind.TheVariants.{Album, Inside}
-use Rattle.machine_core.specs.Meaning.{must}
-use Rattle.machine_core.specs.Work.{AddsNothing, HasRoom, command_room}
+use Rattle.covers.specs.declared.kind.PictureKind.TheVariants.{Album}
+use Rattle.machine_core.specs.Front.{front_of}
+use Rattle.machine_core.specs.Work.{HasRoom, command_room}
 use Rattle.machine_core.specs.declared.work.Failure.{Failure}
 use Rattle.machine_core.specs.declared.work.Failure.TheVariants as failures
 use Rattle.machine_core.specs.declared.work.Work.{Work}
-use Rattle.song_db.specs.Change.{has_uri}
 use Rattle.song_db.specs.Row.{Row}
-use Rattle.daemon_core.specs.Pictures.{album_lines, answer_for, inside_lines, shown, IsShownRefusal, RunsShowing}
+use Rattle.daemon_core.specs.Pictures.{album_lines, answer_for, shown, IsShownRefusal, RunsShowing}
 use Rattle.daemon_core.specs.Talking.{TellsTalk}
 use Rattle.daemon_core.specs.declared.picture.PictureTold.{PictureTold}
 
@@ -39,7 +37,7 @@ pub tells_nothing : (work : Work) → HasRoom command_room work → RunsShowing 
 tells_nothing work room = record {
   text = [];
   is = refl;
-  adds = record { text = sym (append-nil work.text.items); ops = refl; size = refl };
+  adds = record { text = ap front_of (sym (append-nil work.text.items)); ops = refl; size = refl };
   room = room;
 }
 
@@ -52,26 +50,3 @@ album_shown limit told songs command uri at offset answer is same read =
     ap (shown limit told songs) is
     ∙ ap (λ u. ok_or (answer_for Album u offset told) (Setup refusals.OnePicture) >>= album_lines limit) (sym same)
     ∙ ap (λ a. ok_or a (Setup refusals.OnePicture) >>= album_lines limit) (sym read)
-
--- and of a song's
-pub inside_shown : (limit : ℕ) (told : Option PictureTold) (songs : List Row) (command : PicturesCommand) (uri at : List ℕ) (offset : ℕ)
-    (answer : Option PictureAnswer) → command ≡ commands.ReadPicture uri offset → at ≡ uri → has_uri songs at ≡ true
-    → answer ≡ answer_for Inside at offset told
-    → shown limit told songs command ≡ (ok_or answer (Setup refusals.OnePicture) >>= inside_lines limit)
-unfolding shown
-inside_shown limit told songs command uri at offset answer is same there read =
-    ap (shown limit told songs) is
-    ∙ ap (λ u. must (has_uri songs u) NoSuchSong >>= λ song. ok_or (answer_for Inside u offset told) (Setup refusals.OnePicture) >>= inside_lines limit)
-    (sym same)
-    ∙ ap (λ b. must b NoSuchSong >>= λ song. ok_or (answer_for Inside at offset told) (Setup refusals.OnePicture) >>= inside_lines limit) there
-    ∙ ap (λ a. ok_or a (Setup refusals.OnePicture) >>= inside_lines limit) (sym read)
-
--- of what is no song nothing is looked for
-pub no_song_shown : (limit : ℕ) (told : Option PictureTold) (songs : List Row) (command : PicturesCommand) (uri at : List ℕ) (offset : ℕ) →
-    command ≡ commands.ReadPicture uri offset → at ≡ uri → has_uri songs at ≡ false → shown limit told songs command ≡ Err NoSuchSong
-unfolding shown
-no_song_shown limit told songs command uri at offset is same absent =
-    ap (shown limit told songs) is
-    ∙ ap (λ u. must (has_uri songs u) NoSuchSong >>= λ song. ok_or (answer_for Inside u offset told) (Setup refusals.OnePicture) >>= inside_lines limit)
-    (sym same)
-    ∙ ap (λ b. must b NoSuchSong >>= λ song. ok_or (answer_for Inside at offset told) (Setup refusals.OnePicture) >>= inside_lines limit) absent

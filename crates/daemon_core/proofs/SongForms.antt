@@ -13,7 +13,7 @@ use Rattle.machine_core.specs.declared.steps.PlayerStep.TheVariants.{Resume, Pla
 use Rattle.play_queue.specs.Entries.{Uris}
 use Rattle.play_queue.specs.declared.entry.Entry.{Entry}
 use Rattle.player_core.specs.Choice.{chosen, placed}
-use Rattle.player_core.specs.Commands.{named, begun, stepped, stepped_if_any, to_resume, resumed, paused_if, paused, halted, next_one}
+use Rattle.player_core.specs.Commands.{named, begun, stepped, stepped_if_any, to_resume, resumed, paused_if, paused, halted}
 use Rattle.player_core.specs.Commands.{again_from, in_front, gone_back, previous_one, played_from}
 use Rattle.player_core.specs.Ending.{over_at, over, ended_in, followed_by, gone_on_or_stopped, held, held_if, repeats_one, waits}
 use Rattle.player_core.specs.Order.{current_entry}

@@ -9,7 +9,7 @@ use Rattle.machine_core.specs.Keeping.{keeps_place, kept, resumes}
 use Rattle.machine_core.specs.Meaning.{Meaning, Meant}
 use Rattle.machine_core.specs.Missing.{is_withheld, misses, goes_ahead, is_of_withheld, withholds}
 use Rattle.machine_core.specs.Reports.{fed_in}
-use Rattle.machine_core.specs.Scanning.{is_running, kept_changes, telling, finds, ends_scan}
+use Rattle.machine_core.specs.Scanning.{is_running, kept_changes, telling, finds, ends_scan, spared}
 use Rattle.machine_core.specs.Room.{caught, is_idle, room_back, when_room}
 use Rattle.machine_core.specs.State.{MachineState, lacks_room, settings_of, told_room}
 use Rattle.machine_core.specs.Steps.{current_length, named_length, puts, unsaved, without_consume}
@@ -154,9 +154,9 @@ song_kept = record {
       (lacks_room m) (failed_song entries (without_consume settings) m.player ticket cause entry)
       (failed_song entries settings m.player ticket cause entry);
   found = λ job changes m.
-      let rows = finds (telling m.saved.songs (kept_changes m.saved.profile changes)) m in
+      let rows = finds (telling m.saved.songs (kept_changes m.saved.profile (spared m changes))) m in
       if_running m (if_room m rows) (is_running job m)
-      (in_room_song m rows (lacks_room m) (found_song (telling m.saved.songs (kept_changes m.saved.profile changes)) m));
+      (in_room_song m rows (lacks_room m) (found_song (telling m.saved.songs (kept_changes m.saved.profile (spared m changes))) m));
   missed = λ job missing m. if_running m (misses missing m) (is_running job m) (misses_song missing m);
   scanned = λ job m. if_running m (ends_scan m) (is_running job m) (λ h. h);
   clocked = λ time m h. h;

@@ -17,7 +17,7 @@ use Rattle.machine_core.specs.Happening.{Happening, if_room, nothing_happens}
 use Rattle.machine_core.specs.Keeping.{keeps_place, kept_event, resumes}
 use Rattle.machine_core.specs.Missing.{misses}
 use Rattle.machine_core.specs.Reports.{when_fed, when_ended, when_broken, fed_in, happens, player_happens}
-use Rattle.machine_core.specs.Scanning.{is_running, finds, kept_changes, telling, ends_scan, when_found}
+use Rattle.machine_core.specs.Scanning.{is_running, finds, kept_changes, telling, ends_scan, when_found, spared}
 use Rattle.machine_core.specs.State.{MachineState, lacks_room, settings_of}
 use Rattle.machine_core.specs.Steps.{stepping, steps, unsaved, without_consume}
 use Rattle.machine_core.specs.declared.clock.ClockTime.{ClockTime}
@@ -274,8 +274,9 @@ acted_stray s (events.Broken ticket cause) refused h =
     kept_none s (when_broken ticket cause s.machine) (broken_late s.machine ticket cause h)
 acted_stray s (events.Batch job changes) refused h =
     kept_none s (when_found job changes s.machine)
-    (ap (λ b. cond b (if_room s.machine (finds (telling s.machine.saved.songs (kept_changes s.machine.saved.profile changes)) s.machine))
-    (nothing_happens s.machine)) (not_running job s.machine h))
+    (ap (λ b. cond b (if_room s.machine (finds (telling s.machine.saved.songs
+    (kept_changes s.machine.saved.profile (spared s.machine changes))) s.machine)) (nothing_happens s.machine))
+    (not_running job s.machine h))
 acted_stray s (events.Missing job songs) refused h =
     ap (λ b. happened s (cond b (misses songs s.machine) (nothing_happens s.machine))) (not_running job s.machine h)
 acted_stray s (events.ScanDone job) refused h =

@@ -1,11 +1,9 @@
 -- What was read for a client, looked for one after the other.
-use Rattle.std.proofs.Common.{◌≡◌, ℕ, ◌+◌, ◌<◌, ◌≤◌, List, ◌∷◌, true, false, cond, Some, None, length, drop, get_or, ap, ◌∙◌, sym, eq-eqb}
+use Rattle.std.proofs.Common.{◌≡◌, ℕ, ◌+◌, ◌<◌, ◌≤◌, List, ◌∷◌, Some, None, length, drop, get_or, ap, ◌∙◌, sym, eq-eqb}
 use Rattle.std.proofs.Common.{ne_eqb, refl}
-use Rattle.std.specs.Prelude.{Option}
 use Rattle.std.proofs.lemmas.List.{drop_all, drop_more}
 use Rattle.daemon_core.specs.Pictures.{told_for}
 use Rattle.daemon_core.specs.declared.picture.ClientPicture.{ClientPicture}
-use Rattle.daemon_core.specs.declared.picture.PictureTold.{PictureTold}
 
 at_place : (pictures : List ClientPicture) (i : ℕ) (p : ClientPicture) (c : ℕ) → i < length pictures → p ≡ get_or pictures i p
     → told_for (drop i pictures) c ≡ told_for (p ∷ drop (i + 1) pictures) c

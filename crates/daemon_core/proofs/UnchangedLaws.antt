@@ -24,7 +24,7 @@ use Rattle.player_core.specs.declared.failure.BrokenCause.{BrokenCause}
 use Rattle.machine_core.specs.Missing.{is_withheld, misses, goes_ahead, when_missed, withholds}
 use Rattle.machine_core.specs.Reports.{when_broken, when_ended}
 use Rattle.machine_core.specs.Room.{when_room}
-use Rattle.machine_core.specs.Scanning.{ends_scan, finds, is_running, kept_changes, telling, when_found, when_scanned}
+use Rattle.machine_core.specs.Scanning.{ends_scan, finds, is_running, kept_changes, telling, when_found, when_scanned, spared}
 use Rattle.machine_core.specs.State.{lacks_room, MachineState}
 use Rattle.song_db.specs.declared.change.RowChange.{RowChange}
 use Rattle.state_codec.specs.SavedState.{IsSavedState}
@@ -57,7 +57,7 @@ pub record MachineTells : Type 0 where
   pub broken_same : (ticket : ℕ) (cause : BrokenCause) (m : MachineState)
       → (kept_event m (when_broken ticket cause m)).ops ≡ [] → (kept_event m (when_broken ticket cause m)).after.saved ≡ m.saved
   pub found : (job : ℕ) (changes : List RowChange) (m : MachineState) → is_running job m ≡ true → lacks_room m ≡ false
-      → ((kept_event m (when_found job changes m)).ops ≡ [] ↔ telling m.saved.songs (kept_changes m.saved.profile changes) ≡ [])
+      → ((kept_event m (when_found job changes m)).ops ≡ [] ↔ telling m.saved.songs (kept_changes m.saved.profile (spared m changes)) ≡ [])
   pub kept_none : (ticket : ℕ) (m : MachineState) → IsSavedState m.saved
       → (when_kept ticket m).after.saved ≡ m.saved → (when_kept ticket m).ops ≡ []
   pub kept_same : (ticket : ℕ) (m : MachineState) → (when_kept ticket m).ops ≡ [] → (when_kept ticket m).after.saved ≡ m.saved
@@ -173,7 +173,7 @@ connect_tells c s (Some w) = silent s.machine
 
 found_tells : (known : MachineTells) (job : ℕ) (changes : List RowChange) (m : MachineState) →
     let h = kept_event m (when_found job changes m) in Tells (is_running job m ≡ true → lacks_room m ≡ false
-    → telling m.saved.songs (kept_changes m.saved.profile changes)
+    → telling m.saved.songs (kept_changes m.saved.profile (spared m changes))
     ≡ []) m h.ops
 found_tells known job changes m = record {
   none = λ saved leaves. of (is_running job m) (lacks_room m) refl refl leaves;
@@ -182,10 +182,11 @@ found_tells known job changes m = record {
   where
     finding : Bool → Bool → Happening
     finding runs lacks = kept_event m (cond runs
-        (cond lacks (nothing_happens m) (finds (telling m.saved.songs (kept_changes m.saved.profile changes)) m)) (nothing_happens m))
+        (cond lacks (nothing_happens m) (finds (telling m.saved.songs (kept_changes m.saved.profile (spared m changes))) m))
+        (nothing_happens m))
 
     of : (b lacks : Bool) → is_running job m ≡ b → lacks_room m ≡ lacks
-        → (is_running job m ≡ true → lacks_room m ≡ false → telling m.saved.songs (kept_changes m.saved.profile changes) ≡ []) →
+        → (is_running job m ≡ true → lacks_room m ≡ false → telling m.saved.songs (kept_changes m.saved.profile (spared m changes)) ≡ []) →
         let h = kept_event m (when_found job changes m) in h.ops ≡ []
     of true false runs room leaves = (known.found job changes m runs room).1 (leaves runs room)
     of true true runs room leaves =

@@ -1,10 +1,10 @@
 -- The commands of pictures: what each is answered by what was read for the client that asks.
-use Rattle.std.specs.Prelude.{◌≡◌, ℕ, ◌==◌, ◌&&◌, not, Bool, true, false, List, [], ◌∷◌, ◌++◌, take, filter}
+use Rattle.std.specs.Prelude.{◌≡◌, ℕ, ◌==◌, ◌&&◌, not, Bool, List, [], ◌∷◌, ◌++◌, take, filter}
 use Rattle.std.specs.Prelude.{Option, Some, None, option_map, Result, Ok, Err, if◌then◌else◌}
 use Rattle.std.specs.List.{find}
 use Rattle.std.specs.Option.{ok_or}
 use Rattle.std.specs.Str.{bytes_eq}
-use Rattle.covers.specs.Asked.{ToldChunk}
+use Rattle.covers.specs.Asked.{ToldChunk, same_kind}
 use Rattle.covers.specs.declared.asked.PictureAnswer.{PictureAnswer}
 use Rattle.covers.specs.declared.asked.PictureAnswer.TheVariants as answers
 use Rattle.covers.specs.declared.kind.PictureKind.{PictureKind}
@@ -18,7 +18,7 @@ use Rattle.command_text.specs.declared.refusal.CommandRefusal.TheVariants.{NoSuc
 use Rattle.command_text.specs.declared.refusal.SetupRefusal.TheVariants as refusals
 use Rattle.idle_masks.specs.declared.watch.Watched.{Watched}
 use Rattle.machine_core.specs.Meaning.{must}
-use Rattle.machine_core.specs.Work.{AddsNothing, AddsText, HasRoom, command_room}
+use Rattle.machine_core.specs.Work.{AddsNothing, HasRoom, TellsText, command_room}
 use Rattle.machine_core.specs.declared.work.Failure.{Failure}
 use Rattle.machine_core.specs.declared.work.Failure.TheVariants as failures
 use Rattle.machine_core.specs.declared.work.Work.{Work}
@@ -52,12 +52,6 @@ pictured_where None pictures c told = pictures
 pictured_where (Some w) pictures c told = pictured pictures c told
 
 -- ---- what the commands answer
-
-abbrev pub same_kind : PictureKind → PictureKind → Bool
-same_kind Album Album = true
-same_kind Album Inside = false
-same_kind Inside Album = false
-same_kind Inside Inside = true
 
 -- it was asked for just this
 abbrev pub is_told_of : PictureKind → List ℕ → ℕ → PictureTold → Bool
@@ -106,7 +100,7 @@ IsShownRefusal lines failures.NoMemory = Unit {0}
 pub record WentShowing (lines : Result (List ℕ) CommandRefusal) (work done : Work) : Type 0 where
   pub text : List ℕ
   pub is : lines ≡ Ok text
-  pub adds : AddsText text work done
+  pub adds : TellsText text work done
   pub room : HasRoom command_room done
 
 abbrev pub RunsShowing : Result (List ℕ) CommandRefusal → Work → Work → Result (Unit {0}) Failure → Type 0

@@ -1,5 +1,9 @@
 -- What the code of a request does, line by line.
-use Rattle.std.specs.Prelude.{◌≡◌, ℕ, ◌+◌, ◌<◌, List, [], ◌++◌, length, Option, Some, None, Result, Ok, Err, IfSome}
+use Rattle.std.specs.Prelude.{◌≡◌, ℕ, ◌+◌, ◌<◌, ◌≤◌, List, [], ◌++◌, length, Option, Some, None, Result, Ok, Err, IfSome}
+use Rattle.std.specs.Prelude.{vec_capacity, vec_len}
+use Rattle.std.specs.Prelude.{Bool, true, false}
+use Rattle.std.specs.Global.{Vec}
+use Rattle.std.specs.Option.{option_copied}
 use Rattle.command_text.specs.Answer.{ack}
 use Rattle.command_text.specs.Reading.{name_of_line, want_of_memory}
 use Rattle.command_text.specs.declared.place.Place.{Place}
@@ -8,6 +12,7 @@ use Rattle.command_text.specs.declared.refusal.ReadError.{ReadError}
 use Rattle.command_text.specs.declared.refusal.ReadError.TheVariants as errors
 use Rattle.daemon_core.specs.declared.view.View.{View}
 use Rattle.idle_masks.specs.declared.subsystem.Subsystems.{Subsystems}
+use Rattle.machine_core.specs.Front.{SameFront}
 use Rattle.machine_core.specs.Looks.{max_looks}
 use Rattle.machine_core.specs.State.{MachineState}
 use Rattle.machine_core.specs.Work.{AddsNothing, AddsText, HasRoom, ack_room, command_room}
@@ -16,14 +21,43 @@ use Rattle.machine_core.specs.declared.work.Failure.TheVariants as failures
 use Rattle.machine_core.specs.declared.work.Work.{Work}
 use Rattle.profile.specs.declared.profile.Profile.{Profile}
 use Rattle.state_codec.specs.Spelling.{ops_bytes}
-use Rattle.daemon_core.specs.Run.{Asker, Did, Done, Goes, Refuses, Ends, Ran, ran, spent_of}
+use Rattle.state_codec.specs.declared.op.Op.{Op}
+use Rattle.daemon_core.specs.Run.{Asker, Did, Done, Goes, Refuses, Ends, Ran, asker, ran, spent_of}
 use Rattle.daemon_core.specs.Talking.{IsSame}
 use Rattle.daemon_core.specs.declared.talk.Talks.{Talks}
 use Rattle.daemon_core.specs.declared.outcome.Ending.{Ending}
-use Rattle.daemon_core.specs.declared.outcome.Ending.TheVariants.{Answered}
+use Rattle.daemon_core.specs.declared.handled.Handled.{Handled}
+use Rattle.daemon_core.specs.declared.outcome.Ending.TheVariants.{Answered, Closed, Killed, Waits}
+use Rattle.daemon_core.specs.declared.outcome.Output.{Output}
+use Rattle.daemon_core.specs.declared.request.Asked.{Asked}
 use Rattle.daemon_core.specs.declared.request.RequestEnd.{RequestEnd}
 use Rattle.daemon_core.specs.declared.request.Stop.{Stop}
 use Rattle.daemon_core.specs.declared.request.Stop.TheVariants as stops
+
+-- who asks, of one who asks in a place
+abbrev pub asker_of : Asked → Asker
+asker_of asked = asker asked.client (option_copied asked.told)
+
+-- whether the daemon ends
+abbrev pub is_kill : Ending → Bool
+is_kill Answered = false
+is_kill Closed = false
+is_kill Killed = true
+is_kill (Waits mask) = false
+
+-- what a request did that ended so, with these outputs, clients that are closed and ops
+abbrev pub handled_by : RequestEnd → Vec Output → Vec ℕ → Vec Op → Handled
+handled_by end outputs closes ops = record {
+  outcome = record {
+    outputs = outputs;
+    closes = closes;
+    ops = ops;
+    refused_at = end.refused_at;
+    looks = end.looks;
+    ended = is_kill end.ending;
+  };
+  changed = end.changed;
+}
 
 -- why a line that wasn't read stops its request
 abbrev pub stop_of_reading : ReadError → Stop
@@ -45,7 +79,8 @@ ran_of m talks work end = record {
   notified = talks.notified.items;
 }
 
--- a command that doesn't end its request did what it does, and there is room for what ends a command
+-- A command that doesn't end its request did what it does, and there is room for what ends a command. Of its lines those may be missing
+-- that aren't given out.
 pub record IsPerformed
     (does : Result Done CommandRefusal) (before after : MachineState) (talks talked : Talks) (work done : Work) (set : Subsystems)
     : Type 0 where
@@ -54,7 +89,7 @@ pub record IsPerformed
   pub stands : after ≡ what.after
   pub messages : talked.messages ≡ what.messages
   pub notified : talked.notified.items ≡ talks.notified.items ++ what.notified
-  pub text : done.text.items ≡ work.text.items ++ what.text
+  pub text : SameFront done.text.items (work.text.items ++ what.text)
   pub ops : done.ops.items ≡ work.ops.items ++ what.ops
   pub size : done.size ≡ work.size + length (ops_bytes before.saved.profile what.ops)
   pub changed : set ≡ what.changed
@@ -79,7 +114,8 @@ abbrev pub RunsCommand :
 RunsCommand does before after talks talked work done (Ok set) = IsPerformed does before after talks talked work done set
 RunsCommand does before after talks talked work done (Err failure) = IsNotPerformed does before after talks talked work done failure
 
--- the command of a line did what it does: its lines, the separator and its ops were added, and there is room for what ends a request
+-- The command of a line did what it does: its ops were added, its lines and the separator, of which those may be missing that aren't given
+-- out, and there is room for what ends a request.
 pub record WentOn
     (separator : List ℕ) (did : Did) (before after : MachineState) (talks talked : Talks) (work done : Work) (set : Subsystems)
     : Type 0 where
@@ -88,7 +124,7 @@ pub record WentOn
   pub stands : after ≡ what.after
   pub messages : talked.messages ≡ what.messages
   pub notified : talked.notified.items ≡ talks.notified.items ++ what.notified
-  pub text : done.text.items ≡ work.text.items ++ (what.text ++ separator)
+  pub text : SameFront done.text.items (work.text.items ++ (what.text ++ separator))
   pub ops : done.ops.items ≡ work.ops.items ++ what.ops
   pub size : done.size ≡ work.size + length (ops_bytes before.saved.profile what.ops)
   pub changed : set ≡ what.changed
@@ -100,11 +136,19 @@ IsStop did (stops.Ends ending) = did ≡ Ends ending
 IsStop did (stops.Refused refusal) = did ≡ Refuses refusal
 IsStop did stops.NoMemory = Unit {0}
 
+-- nothing was added to what is given out of the answer, which may be cut to that; memory that was taken may stay
+pub record TellsNothing (before after : Work) : Type 0 where
+  pub text : SameFront after.text.items before.text.items
+  pub shorter : vec_len after.text ≤ vec_len before.text
+  pub room : vec_capacity before.text ≤ vec_capacity after.text
+  pub ops : after.ops.items ≡ before.ops.items
+  pub size : after.size ≡ before.size
+
 -- the command stops its request, and nothing was changed
 pub record Stopped (did : Did) (before after : MachineState) (talks talked : Talks) (work done : Work) (stop : Stop) : Type 0 where
   pub stands : after ≡ before
   pub same : IsSame talks talked
-  pub nothing : AddsNothing work done
+  pub nothing : TellsNothing work done
   pub why : IsStop did stop
 
 abbrev pub RunsLine :
@@ -131,7 +175,7 @@ abbrev pub view_at_end : Option ℕ → View → View → View
 view_at_end None before behind = behind
 view_at_end (Some place) before behind = before
 
--- how much a request looked at that ended at a command: all that it may where memory was refused
+-- how much a request looked at that ended at a command: all that is counted where memory was refused
 abbrev pub looks_at_end : Option ℕ → ℕ → ℕ
 looks_at_end None looks = looks
 looks_at_end (Some place) looks = max_looks
@@ -161,7 +205,7 @@ pub record RunsLines
     (talks talked : Talks) (work done : Work) (end : RequestEnd)
     : Type 0 where
   pub stands : after ≡ (ran_for c place between view lines before talks work end).after
-  pub text : done.text.items ≡ work.text.items ++ (ran_for c place between view lines before talks work end).text
+  pub text : SameFront done.text.items (work.text.items ++ (ran_for c place between view lines before talks work end).text)
   pub ops : done.ops.items ≡ work.ops.items ++ (ran_for c place between view lines before talks work end).ops
   pub changed : end.changed ≡ (ran_for c place between view lines before talks work end).changed
   pub ending : end.ending ≡ (ran_for c place between view lines before talks work end).ending

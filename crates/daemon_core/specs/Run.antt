@@ -132,7 +132,7 @@ unspent m view messages = spent_of (checksum_len m.saved.profile) 0 view message
 abbrev pub within_both : Spent → Command → MachineState → Meant
 within_both spent command m =
     kept m (within_room m.saved.profile spent.size
-    (weighed spent.looks (looks_of command m) (under_room m (meaning spent.view.tags command m))))
+    (weighed m.saved.profile spent.looks (looks_of command m) (under_room m (meaning spent.view.tags command m))))
 
 -- a command of pictures tells its lines, and leaves the messages
 abbrev pub shows : List Listener → Result (List ℕ) CommandRefusal → Result Talk CommandRefusal
@@ -179,7 +179,7 @@ view_of_line place line m view = view_read (line_reading m.saved.profile place l
 -- what is spent behind the command of a line, which makes these ops
 abbrev pub spent_behind : Place → List ℕ → MachineState → Spent → List Op → Spent
 spent_behind place line m spent ops =
-    spent_of (spent.size + length (ops_bytes m.saved.profile ops)) (looked spent.looks (looks_of_line place line m))
+    spent_of (spent.size + length (ops_bytes m.saved.profile ops)) (looked m.saved.profile spent.looks (looks_of_line place line m))
     (view_of_line place line m spent.view) spent.messages
 
 -- What a request did: the machine after it, its answer, the subsystems that one of its commands changed, its ops in order, how
@@ -214,7 +214,7 @@ ends m spent text ending = record {
 }
 
 -- It ends here, since the command of this line, in this place, was refused memory: how much it had looked at by then isn't told, and it
--- counts as all that a request may look at.
+-- counts as all that is counted of a request.
 abbrev pub wants_memory : MachineState → Spent → ℕ → List ℕ → Ran
 wants_memory m spent index line =
     record (ends m spent (ack index (want_of_memory (name_of_line m.saved.profile line))) Answered) {

@@ -6,6 +6,7 @@ use Rattle.idle_masks.specs.Subsystems.{none}
 use Rattle.idle_masks.specs.Watched.{left, watched, with_waiting}
 use Rattle.idle_masks.specs.declared.subsystem.Subsystems.{Subsystems}
 use Rattle.idle_masks.specs.declared.watch.Watched.{Watched}
+use Rattle.machine_core.specs.Front.{front_of}
 use Rattle.machine_core.specs.Happening.{Happening}
 use Rattle.state_codec.specs.declared.op.Op.{Op}
 use Rattle.daemon_core.specs.declared.view.View.{View}
@@ -100,9 +101,11 @@ talked_in r s = with_messages s r.messages
 abbrev pub untold : ℕ → State → State
 untold c s = with_pictures s (unpictured s.pictures c)
 
--- What comes of a request of this client, by how it ended. A client that waits is answered where the changes are told.
+-- What comes of a request of this client, by how it ended. Of an answer that is longer than any that is sent a front is given out. A client
+-- that waits is answered where the changes are told.
 abbrev pub of_ran : ℕ → State → Ran → Ending → Acted
-of_ran c s r Answered = record (ran_silently (untold c (seeing c r.view (talked_in r s))) r) { answer = output c r.text ∷ [] }
+of_ran c s r Answered =
+    record (ran_silently (untold c (seeing c r.view (talked_in r s))) r) { answer = output c (front_of r.text) ∷ [] }
 of_ran c s r Closed = record (ran_silently (without c (talked_in r s)) r) { closes = c ∷ [] }
 of_ran c s r Killed = record (ran_silently (without_all s) r) { closes = numbers_of s.clients; ended = true }
 of_ran c s r (Waits mask) = ran_silently (untold c (seeing c r.view (waiting c (Some mask) (talked_in r s)))) r

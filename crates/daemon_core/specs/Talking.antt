@@ -6,7 +6,7 @@ use Rattle.client_messages.specs.declared.refusal.MessagesError.{MessagesError}
 use Rattle.client_messages.specs.declared.refusal.MessagesError.TheVariants as errors
 use Rattle.command_text.specs.declared.refusal.CommandRefusal.{CommandRefusal}
 use Rattle.idle_masks.specs.declared.subsystem.Subsystems.{Subsystems}
-use Rattle.machine_core.specs.Work.{AddsNothing, AddsText, HasRoom, command_room}
+use Rattle.machine_core.specs.Work.{AddsNothing, HasRoom, TellsText, command_room}
 use Rattle.machine_core.specs.declared.work.Failure.{Failure}
 use Rattle.machine_core.specs.declared.work.Failure.TheVariants.{Refused, NoMemory}
 use Rattle.machine_core.specs.declared.work.Work.{Work}
@@ -35,9 +35,9 @@ FailsAs (Some error) (Ok x) = ⊥
 FailsAs (Some error) (Err (Refused refusal)) = failure_of error ≡ Refused refusal
 FailsAs (Some error) (Err NoMemory) = Unit {0}
 
--- these lines were added, with room for what ends a command, or none
+-- these lines were added, but those that aren't given out, with room for what ends a command, or none
 abbrev pub TellsTalk : List ℕ → Work → Work → Result (Unit {0}) Failure → Type 0
-TellsTalk lines work done (Ok x) = AddsText lines work done × HasRoom command_room done
+TellsTalk lines work done (Ok x) = TellsText lines work done × HasRoom command_room done
 TellsTalk lines work done (Err failure) = AddsNothing work done × (failure ≡ NoMemory)
 
 -- the command did what it does
@@ -46,7 +46,7 @@ pub record WentTalking (talked : Result Talk CommandRefusal) (before after : Tal
   pub does : talked ≡ Ok talk
   pub messages : after.messages ≡ talk.messages
   pub notified : after.notified.items ≡ before.notified.items ++ talk.notified
-  pub text : AddsText talk.text work done
+  pub text : TellsText talk.text work done
   pub changed : set ≡ talk.changed
   pub room : HasRoom command_room done
 

@@ -9,7 +9,7 @@ use Rattle.idle_masks.specs.declared.subsystem.Subsystems.{Subsystems}
 use Rattle.machine_core.specs.Keeping.{kept_event, when_kept}
 use Rattle.machine_core.specs.Reports.{when_broken, when_ended}
 use Rattle.machine_core.specs.Room.{when_room}
-use Rattle.machine_core.specs.Scanning.{is_running, kept_changes, telling}
+use Rattle.machine_core.specs.Scanning.{is_running, kept_changes, telling, spared}
 use Rattle.machine_core.specs.State.{MachineState, lacks_room}
 use Rattle.state_codec.specs.declared.op.Op.{Op}
 use Rattle.daemon_core.specs.Run.{Asker, Did, Goes, Refuses, Ends, attempted, is_refused_at, Spent, spent_behind, spent_on}
@@ -46,8 +46,8 @@ AskedLeaves c refused spent m request (Some None) = RequestLeaves c refused spen
 AskedLeaves c refused spent m request (Some (Some mask)) = Unit {0}
 
 -- Nothing that is saved changes at any turn: each command of a request leaves the saved half as it finds it, so does what follows the end
--- of a song or its failure, where the player is is kept already, and no change of a batch of the job that runs changes a row. Of the
--- saved half no other event speaks.
+-- of a song or its failure, where the player is is kept already, and no change of a batch of the job that runs changes a row, beside one
+-- that drops the song that is heard. Of the saved half no other event speaks.
 abbrev pub LeavesSaved : State → Event → Option ℕ → Type 0
 LeavesSaved s (events.Connect c) refused = Unit {0}
 LeavesSaved s (events.Request c request) refused =
@@ -59,7 +59,7 @@ LeavesSaved s (events.Broken ticket cause) refused = (kept_event s.machine (when
     ≡ s.machine.saved
 LeavesSaved s (events.Batch job changes) refused =
     is_running job s.machine ≡ true → lacks_room s.machine ≡ false
-    → telling s.machine.saved.songs (kept_changes s.machine.saved.profile changes) ≡ []
+    → telling s.machine.saved.songs (kept_changes s.machine.saved.profile (spared s.machine changes)) ≡ []
 LeavesSaved s (events.Missing job songs) refused = Unit {0}
 LeavesSaved s (events.ScanDone job) refused = Unit {0}
 LeavesSaved s (events.Clock time) refused = Unit {0}

@@ -1,5 +1,5 @@
 -- How a client is told: the tags that it sees, and how many bytes of a picture an answer to it may have.
-use Rattle.std.specs.Prelude.{ℕ, ◌==◌, ◌&&◌, Bool}
+use Rattle.std.specs.Prelude.{◌==◌, ◌&&◌, Bool}
 use Rattle.command_text.specs.Masks.{after_change, all_in_mask, is_all}
 use Rattle.command_text.specs.declared.command.Command.{Command}
 use Rattle.command_text.specs.declared.command.Command.TheVariants as commands

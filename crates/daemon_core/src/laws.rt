@@ -48,7 +48,7 @@ pub fn refused_place_is_reached()
     ensures none { (s : State) (event : Event) → (step s event None).refused_at ≡ None }
 {}
 
-/// No event looks at more than one request may.
+/// No event counts as looking at more than the wide profile lets one request look at.
 pub fn event_looks_within_the_limit()
     ensures { (s : State) (event : Event) (refused : Option ℕ) → (step s event refused).looks ≤ max_looks }
 {}

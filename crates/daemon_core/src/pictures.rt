@@ -2,7 +2,7 @@
 ghost use Rattle.std.specs.Prelude.{◌≡◌, ◌<◌, [], Err, option_copied, take, OnOk, vec_len, vec_capacity};
 ghost use Rattle.command_text.specs.declared.refusal.CommandRefusal.TheVariants.{Setup};
 ghost use Rattle.machine_core.specs.Work.{HasRoom, command_room};
-ghost use Rattle.daemon_core.specs.Pictures.{album_lines, answer_for, chunk_lines, inside_lines, is_told_of, pictured, same_kind, shown};
+ghost use Rattle.daemon_core.specs.Pictures.{album_lines, answer_for, chunk_lines, inside_lines, is_told_of, pictured, shown};
 ghost use Rattle.daemon_core.specs.Pictures.{told_for, unpictured, RunsShowing};
 ghost use Rattle.daemon_core.specs.Talking.{TellsTalk};
 
@@ -76,22 +76,11 @@ impl Pictures {
     }
 }
 
-fn is_same_kind(kind: PictureKind, other: PictureKind) -> bool
-    ensures { result ≡ same_kind kind other }
-{
-    match (kind, other) {
-        (PictureKind::Album, PictureKind::Album) | (PictureKind::Inside, PictureKind::Inside) => {
-            true
-        }
-        _ => false,
-    }
-}
-
 // Whether it was asked for just this.
 fn is_told_of(kind: PictureKind, uri: &str, offset: u32, told: &PictureTold) -> bool
     ensures { result ≡ is_told_of kind uri.now offset told.now }
 {
-    is_same_kind(told.ask.kind, kind) && told.ask.uri.as_str() == uri && told.ask.offset == offset
+    told.ask.kind.is(kind) && told.ask.uri.as_str() == uri && told.ask.offset == offset
 }
 
 // The answer that was read for this question.
@@ -128,6 +117,9 @@ fn tell_chunk(
 ) -> Result<(), Failure>
     ensures { TellsTalk (chunk_lines limit (option_copied mime.entry) chunk.now) work.old work.new result }
 {
+    if work.is_long() {
+        return work.keep_none();
+    }
     let bytes = shown_bytes(limit, chunk.bytes.as_slice());
     let mark = work.text.len();
     let written = write_picture(&mut work.text, chunk.size, mime, bytes);

@@ -1,8 +1,8 @@
 // The commands of a request, one after the other, and how it ends.
-ghost use Rattle.std.specs.Prelude.{◌≡◌, ◌<◌, ◌^◌, true, length, option_copied};
+ghost use Rattle.std.specs.Prelude.{◌≡◌, ◌<◌, ◌^◌, true, length};
 ghost use Rattle.daemon_core.specs.Request.{stop_of_reading, looks_at_end, view_at_end, CountsLooks, HasView, RunsLine, RunsLines};
-ghost use Rattle.daemon_core.specs.Request.{AnswersStop, RunsCommand};
-ghost use Rattle.daemon_core.specs.Run.{asker, attempted, done_by, ending_of, looks_of_line, performed, separator, spent_of};
+ghost use Rattle.daemon_core.specs.Request.{AnswersStop, RunsCommand, asker_of, is_kill};
+ghost use Rattle.daemon_core.specs.Run.{attempted, done_by, ending_of, looks_of_line, performed, separator, spent_of};
 ghost use Rattle.daemon_core.specs.Run.{view_of_line};
 ghost use Rattle.daemon_core.specs.Step.{is_noidle};
 ghost use Rattle.machine_core.specs.Looks.{looked, looks_of};
@@ -24,10 +24,20 @@ use idle_masks::{ClientId, Subsystems};
 use machine_core::{Failure, Looks, MAX_LOOKS, Machine, Work};
 use no_memory::NoMemory;
 use profile::Profile;
+use state_codec::Op;
 use std::alloc::Global;
 
 // A request has at most so many commands.
 const MOST_COMMANDS: usize = 4_294_967_295;
+
+// Who asks, and how: the client, the picture that was read for it, where its commands stand, and whether each is separated from the next.
+#[derive(Clone, Copy)]
+struct Asked<'p> {
+    client: ClientId,
+    told: Option<&'p PictureTold>,
+    place: Place,
+    separated: bool,
+}
 
 // Why a command is the last one of its request.
 #[derive(Drop)]
@@ -60,6 +70,38 @@ pub struct RequestEnd {
     pub(crate) looks: u64,
     // How its client is told behind it.
     pub(crate) view: View,
+}
+
+impl RequestEnd {
+    ghost use Rattle.daemon_core.specs.Request.{handled_by};
+
+    // What the request did, with these outputs, clients that are closed and ops.
+    fn handled(&self, outputs: Vec<Output>, closes: Vec<ClientId>, ops: Vec<Op>) -> Handled
+        ensures { result ≡ handled_by self.now outputs closes ops }
+    {
+        let outcome = Outcome {
+            outputs,
+            closes,
+            ops,
+            refused_at: self.refused_at,
+            looks: self.looks,
+            ended: is_kill(self.ending),
+        };
+        Handled {
+            outcome,
+            changed: self.changed,
+        }
+    }
+}
+
+// Whether the daemon ends.
+fn is_kill(ending: Ending) -> bool
+    ensures { result ≡ is_kill ending }
+{
+    match ending {
+        Ending::Answered | Ending::Closed | Ending::Waits(_) => false,
+        Ending::Killed => true,
+    }
 }
 
 // Why a line that wasn't read stops its request.
@@ -109,7 +151,7 @@ fn answer_stop(
     (Ending::Answered, Some(index))
 }
 
-// How much a request looked at that ended at a command: all that it may where memory was refused.
+// How much a request looked at that ended at a command: all that is counted where memory was refused.
 fn looks_at_end(refused_at: Option<u32>, looks: &Looks) -> u64
     ensures { result ≡ looks_at_end refused_at looks.now }
 {
@@ -216,17 +258,20 @@ impl CoreParts {
         self.views.make_room()?;
         let view = self.views.seen_by(client);
         let told = self.pictures.told_for(client);
+        let asked = Asked {
+            client,
+            told,
+            place,
+            separated,
+        };
         let profile = self.machine.saved().profile();
         let mut work = Work::new(alloc, profile)?;
         let end = run_lines(
             &mut self.machine,
             &mut self.talks,
             alloc,
-            client,
-            place,
-            separated,
+            asked,
             view,
-            told,
             lines,
             &mut work,
         );
@@ -250,70 +295,31 @@ impl CoreParts {
         requires mask { vec_len self.old.views.list < vec_capacity self.old.views.list }
         ensures { Does (of_ran client (state_of self.old) (ran_of self.old.machine self.old.talks work end) end.ending) self.new result }
     {
-        let RequestEnd {
-            ending,
-            changed,
-            refused_at,
-            looks,
-            view,
-        } = end;
         let Work { text, ops, .. } = work;
-        match ending {
+        match end.ending {
             Ending::Answered => {
-                self.views.set(client, view);
+                self.views.set(client, end.view);
                 self.pictures.forget(client);
-                let bytes = Bytes::new(text);
+                let bytes = Bytes::of_answer(text);
                 outputs.push_reserved(Output { client, bytes });
-                let outcome = Outcome {
-                    outputs,
-                    closes: Vec::new(alloc),
-                    ops,
-                    refused_at,
-                    looks,
-                    ended: false,
-                };
-                Handled { outcome, changed }
+                end.handled(outputs, Vec::new(alloc), ops)
             }
             Ending::Closed => {
                 let mut closes = self.room.give_closes(alloc);
                 closes.push_reserved(client);
                 self.leave(client);
-                let outcome = Outcome {
-                    outputs,
-                    closes,
-                    ops,
-                    refused_at,
-                    looks,
-                    ended: false,
-                };
-                Handled { outcome, changed }
+                end.handled(outputs, closes, ops)
             }
             Ending::Killed => {
                 let mut closes = self.room.give_closes(alloc);
                 self.close_all(&mut closes);
-                let outcome = Outcome {
-                    outputs,
-                    closes,
-                    ops,
-                    refused_at,
-                    looks,
-                    ended: true,
-                };
-                Handled { outcome, changed }
+                end.handled(outputs, closes, ops)
             }
             Ending::Waits(mask) => {
                 self.wait(client, mask);
-                self.views.set(client, view);
+                self.views.set(client, end.view);
                 self.pictures.forget(client);
-                let outcome = Outcome {
-                    outputs,
-                    closes: Vec::new(alloc),
-                    ops,
-                    refused_at,
-                    looks,
-                    ended: false,
-                };
-                Handled { outcome, changed }
+                end.handled(outputs, Vec::new(alloc), ops)
             }
         }
     }
@@ -324,18 +330,15 @@ fn run_lines(
     machine: &mut Machine,
     talks: &mut Talks,
     alloc: Global,
-    client: ClientId,
-    place: Place,
-    separated: bool,
+    asked: Asked<'_>,
     view: View,
-    told: Option<&PictureTold>,
     lines: LinesRef<'_>,
     work: &mut Work,
 ) -> RequestEnd
     requires room { HasRoom ack_room work.old }
     requires count { length lines < 2 ^ 32 }
-    ensures { RunsLines (asker client (option_copied told.entry)) place (separator separated) view lines.entry machine.old machine.new talks.old talks.new work.old work.new
-        result }
+    ensures { RunsLines (asker_of asked.entry) asked.entry.place (separator asked.entry.separated) view lines.entry machine.old machine.new
+        talks.old talks.new work.old work.new result }
 {
     let mut changed = Subsystems::none();
     let mut looks = Looks::new();
@@ -345,8 +348,7 @@ fn run_lines(
     while let Some((line, after)) = rest.split_first() {
         let before = view;
         match run_line(
-            machine, talks, alloc, client, place, separated, told, line, work, &mut looks,
-            &mut view,
+            machine, talks, alloc, asked, line, work, &mut looks, &mut view,
         ) {
             Ok(set) => changed = changed.union(set),
             Err(stop) => {
@@ -381,21 +383,20 @@ fn run_line(
     machine: &mut Machine,
     talks: &mut Talks,
     alloc: Global,
-    client: ClientId,
-    place: Place,
-    separated: bool,
-    told: Option<&PictureTold>,
+    asked: Asked<'_>,
     line: &[u8],
     work: &mut Work,
     looks: &mut Looks,
     view: &mut View,
 ) -> Result<Subsystems, Stop>
     requires { HasRoom ack_room work.old }
-    ensures runs { RunsLine (separator separated)
-        (attempted (asker client (option_copied told.entry)) place (spent_of work.old.size looks.old view.old talks.old.messages) line.now machine.old)
+    ensures runs { RunsLine (separator asked.entry.separated)
+        (attempted (asker_of asked.entry) asked.entry.place (spent_of work.old.size looks.old view.old talks.old.messages) line.now
+        machine.old)
         machine.old machine.new talks.old talks.new work.old work.new result }
-    ensures view { HasView (view_of_line place line.now machine.old view.old) view.new result }
-    ensures looks { CountsLooks (looked looks.old (looks_of_line place line.now machine.old)) looks.new result }
+    ensures view { HasView (view_of_line asked.entry.place line.now machine.old view.old) view.new result }
+    ensures looks { CountsLooks (looked machine.old.saved.profile looks.old (looks_of_line asked.entry.place line.now machine.old))
+        looks.new result }
 {
     let profile = machine.saved().profile();
     if work.make_room(profile).is_err() {
@@ -405,13 +406,11 @@ fn run_line(
         Ok(words) => words,
         Err(error) => return Err(stop_of_reading(error)),
     };
-    match Command::read(alloc, profile, place, words.as_slice()) {
+    match Command::read(alloc, profile, asked.place, words.as_slice()) {
         Ok(command) => {
             let before = *view;
             *view = before.behind(&command.command);
-            run_command(
-                machine, talks, alloc, client, separated, before, told, command, work, looks,
-            )
+            run_command(machine, talks, alloc, asked, before, command, work, looks)
         }
         Err(error) => Err(stop_of_reading(error)),
     }
@@ -422,20 +421,18 @@ fn run_command(
     machine: &mut Machine,
     talks: &mut Talks,
     alloc: Global,
-    client: ClientId,
-    separated: bool,
+    asked: Asked<'_>,
     view: View,
-    told: Option<&PictureTold>,
     command: NamedCommand<'_>,
     work: &mut Work,
     looks: &mut Looks,
 ) -> Result<Subsystems, Stop>
     requires room { HasRoom command_room work.old }
     requires keeps { CanKeepBy machine.old.saved.profile work.old }
-    ensures ran { RunsLine (separator separated)
-        (performed (asker client (option_copied told.entry)) (spent_of work.old.size looks.old view talks.old.messages) command.entry machine.old)
+    ensures ran { RunsLine (separator asked.entry.separated)
+        (performed (asker_of asked.entry) (spent_of work.old.size looks.old view talks.old.messages) command.entry machine.old)
         machine.old machine.new talks.old talks.new work.old work.new result }
-    ensures looks { looks.new ≡ looked looks.old (looks_of command.entry.command machine.old) }
+    ensures looks { looks.new ≡ looked machine.old.saved.profile looks.old (looks_of command.entry.command machine.old) }
     ensures memory { result ≡ Err Stop.NoMemory → takes_memory command.entry.command machine.old ≡ true }
 {
     let NamedCommand { name, command } = command;
@@ -446,11 +443,9 @@ fn run_command(
         }
         None => {}
     }
-    match perform(
-        machine, talks, alloc, client, view, told, command, work, looks,
-    ) {
+    match perform(machine, talks, alloc, asked, view, command, work, looks) {
         Ok(changed) => {
-            separate(separated, work);
+            separate(asked.separated, work);
             Ok(changed)
         }
         Err(Failure::Refused(refusal)) => { Err(Stop::Refused(Refusal::OfCommand(name, refusal))) }
@@ -464,9 +459,8 @@ fn perform(
     machine: &mut Machine,
     talks: &mut Talks,
     alloc: Global,
-    client: ClientId,
+    asked: Asked<'_>,
     view: View,
-    told: Option<&PictureTold>,
     command: Command<'_>,
     work: &mut Work,
     looks: &mut Looks,
@@ -474,15 +468,21 @@ fn perform(
     requires room { HasRoom command_room work.old }
     requires keeps { CanKeepBy machine.old.saved.profile work.old }
     ensures ran { RunsCommand
-        (done_by (asker client (option_copied told.entry)) (spent_of work.old.size looks.old view talks.old.messages) command.entry machine.old)
+        (done_by (asker_of asked.entry) (spent_of work.old.size looks.old view talks.old.messages) command.entry machine.old)
         machine.old machine.new talks.old talks.new work.old work.new result }
-    ensures looks { looks.new ≡ looked looks.old (looks_of command.entry machine.old) }
+    ensures looks { looks.new ≡ looked machine.old.saved.profile looks.old (looks_of command.entry machine.old) }
     ensures memory { result ≡ Err Failure.NoMemory → takes_memory command.entry machine.old ≡ true }
 {
     match command {
-        Command::Messages(command) => talks.perform(alloc, client, command, work),
+        Command::Messages(command) => talks.perform(alloc, asked.client, command, work),
         Command::Pictures(command) => {
-            match show(view.limit, told, machine.saved().songs(), command, work) {
+            match show(
+                view.limit,
+                asked.told,
+                machine.saved().songs(),
+                command,
+                work,
+            ) {
                 Ok(()) => Ok(Subsystems::none()),
                 Err(failure) => Err(failure),
             }

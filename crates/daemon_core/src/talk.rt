@@ -110,6 +110,9 @@ impl Talks {
     fn tell_channels(&self, alloc: Global, work: &mut Work) -> Result<(), Failure>
         ensures { TellsTalk (flat_map channel_line (channels_in self.now.messages)) work.old work.new result }
     {
+        if work.is_long() {
+            return work.keep_none();
+        }
         let channels = self.messages.channels(alloc)?;
         let mark = work.text.len();
         let written = write_channels(&mut work.text, &channels);

@@ -29,13 +29,20 @@ fn cause_of(word: &str) -> Result<BrokenCause, Fault> {
     }
 }
 
-// A clock that tells when the daemon began, for how long it has run, and the time of day.
+// A clock that tells when the daemon began, for how long it has run, the time of day, and maybe that nobody reads the output.
 fn clock_of(began: u64, rest: &str) -> Result<ClockTime, Fault> {
     let (uptime, rest) = first_number(rest)?;
+    let (now, rest) = first_number(rest)?;
+    let is_unread = match rest {
+        "" => false,
+        "unread" => true,
+        _ => return Err(Fault::NoDirective),
+    };
     Ok(ClockTime {
         began,
         uptime,
-        now: number(rest)?,
+        now,
+        is_unread,
     })
 }
 

@@ -8,7 +8,7 @@ use Rattle.machine_core.specs.Keeping.{keep_ops, keeps_place, kept_event, resume
 use Rattle.machine_core.specs.Missing.{is_withheld, misses, goes_ahead, when_missed, withholds}
 use Rattle.machine_core.specs.Reports.{when_broken, when_ended}
 use Rattle.machine_core.specs.Room.{is_idle, room_back, when_room}
-use Rattle.machine_core.specs.Scanning.{changes_rows, ends_scan, finds, is_running, kept_changes, telling, when_found, when_scanned}
+use Rattle.machine_core.specs.Scanning.{changes_rows, ends_scan, finds, is_running, kept_changes, telling, when_found, when_scanned, spared}
 use Rattle.machine_core.specs.State.{lacks_room, told_room, MachineState}
 use Rattle.player_core.specs.Place.{PlaceState}
 use Rattle.player_core.specs.Reports.{counts}
@@ -82,10 +82,11 @@ room_or_not_profile h m same =
 found_profile : (job : ℕ) (changes : List RowChange) (m : MachineState)
     → (let h = when_found job changes m in h.after.saved.profile) ≡ m.saved.profile
 found_profile job changes m =
-    elim (is_running job m) as (λ b. (let h = cond b (if_room m (finds (telling m.saved.songs (kept_changes m.saved.profile changes)) m))
-    (nothing_happens m) in h.after.saved.profile) ≡ m.saved.profile) [
-      | true ↦ room_or_not_profile (finds (telling m.saved.songs (kept_changes m.saved.profile changes)) m) m
-          (finds_profile (telling m.saved.songs (kept_changes m.saved.profile changes)) m)
+    elim (is_running job m) as (λ b.
+    (let h = cond b (if_room m (finds (telling m.saved.songs (kept_changes m.saved.profile (spared m changes))) m)) (nothing_happens m)
+    in h.after.saved.profile) ≡ m.saved.profile) [
+      | true ↦ room_or_not_profile (finds (telling m.saved.songs (kept_changes m.saved.profile (spared m changes))) m) m
+          (finds_profile (telling m.saved.songs (kept_changes m.saved.profile (spared m changes))) m)
       | false ↦ refl
     ]
 

@@ -1,5 +1,5 @@
 -- A group, one event more at a time.
-use Rattle.std.proofs.Common.{◌≡◌, ◌≢◌, ◌⊎◌, inl, inr, ℕ, ◌+◌, ◌-◌, ◌*◌, ◌^◌, ◌<◌, ◌≤◌, min, Bool, true, false, not, ◌&&◌, ◌||◌, List, [], ◌∷◌, ◌++◌}
+use Rattle.std.proofs.Common.{◌≡◌, ◌≢◌, ◌⊎◌, ℕ, ◌+◌, ◌-◌, ◌*◌, ◌^◌, ◌<◌, ◌≤◌, min, Bool, true, false, not, ◌&&◌, ◌||◌, List, [], ◌∷◌, ◌++◌}
 use Rattle.std.proofs.Common.{length, length-append, map, reverse, Option, Some, None, Result, Ok, Err, refl, sym, ap, subst, ◌∙◌}
 use Rattle.std.proofs.Common.{append_assoc, arith}
 use Rattle.std.specs.Prelude.{sum_by, nat_le, ◌==◌}
@@ -32,7 +32,7 @@ use Rattle.live_stage.specs.Found.{state_of}
 use Rattle.live_stage.specs.Group.{AreParted, BearTheirStates, EndsThere, TookEach, answer_bytes, answer_looks, are_last, asked_by}
 use Rattle.live_stage.specs.Group.{bodies_after, body_of, body_of_step, file_with, group_file, history_in, may_follow, most_answer_bytes, most_looks, takes_more}
 use Rattle.live_stage.specs.LiveState.{LiveState}
-use Rattle.live_stage.specs.Numbers.{Numbers, FileNumbers, greatest, is_due, longest_record, most_bytes, most_records, next_numbers}
+use Rattle.live_stage.specs.Numbers.{Numbers, FileNumbers, greatest, is_due, longest_record, next_numbers}
 use Rattle.live_stage.specs.Numbers.{record_bytes}
 use Rattle.live_stage.specs.Staging.{AddsStep, AreStaged, AreTaken, IsAnswerOf, KeepsToBounds, file_begun, numbers_begun, numbers_staged}
 use Rattle.live_stage.specs.Transcript.{IsStepOf, IsTranscript, entry_of, history_of, numbers_after, replayed}
@@ -145,6 +145,10 @@ file_records file (body ∷ bodies) = refl
 pub file_snapshot : (file : FileNumbers) (bodies : List (List ℕ)) → (let f = file_with file bodies in f.snapshot_len) ≡ file.snapshot_len
 file_snapshot file [] = refl
 file_snapshot file (body ∷ bodies) = refl
+
+pub file_layout : (file : FileNumbers) (bodies : List (List ℕ)) → (let f = file_with file bodies in f.layout) ≡ file.layout
+file_layout file [] = refl
+file_layout file (body ∷ bodies) = refl
 
 pub file_bytes : (file : FileNumbers) (bodies : List (List ℕ)) → file.bytes ≤ greatest
     → (let f = file_with file bodies in f.bytes) ≡ min (file.bytes + records_len bodies) greatest

@@ -23,7 +23,7 @@ use Rattle.live_stage.specs.LiveState.{LiveState}
 use Rattle.live_stage.specs.Numbers.{AreSpent, FileNumbers, Numbers, is_due}
 use Rattle.live_stage.specs.Transcript.{HasRoomFor, IsTranscript, StaysBroken, broken_after, broken_by, bytes_after, history_of, replayed}
 use Rattle.live_stage.specs.Turns.{IsReady, IsStill, RefusesInOrder, WritesOneFile, writes_to_b}
-use Rattle.live_stage.proofs.GroupLaws.{Reply, body_few, body_takes, file_records, file_snapshot, length-history}
+use Rattle.live_stage.proofs.GroupLaws.{Reply, body_few, body_takes, file_layout, file_records, file_snapshot, length-history}
 use Rattle.live_stage.proofs.HistoryLaws.{as_many, oks}
 use Rattle.live_stage.proofs.TurnLaws.{IsOtherKept, other_same, undue}
 
@@ -79,6 +79,7 @@ adds_none v events answers = record {
   few = λ is. omega arith;
   short = λ is. omega arith;
   behind = λ is. refl;
+  laid = λ is. refl;
 }
 
 -- a call before which no checkpoint is due writes to the file in use
@@ -107,6 +108,7 @@ adds_group old new (t ∷ turns) group files room =
       few = λ is. omega (arith, ap (λ (f : FileNumbers). f.records) file, file_records old.file bodies, bodies_few old.state whole, long, asked_len turns);
       short = λ is. omega (arith, ap (λ (f : FileNumbers). f.bytes) file, file_short old.file bodies, bodies_take old.state whole);
       behind = λ is. ap (λ (f : FileNumbers). f.snapshot_len) file ∙ file_snapshot old.file bodies;
+      laid = λ is. ap (λ (f : FileNumbers). f.layout) file ∙ file_layout old.file bodies;
     }
 
 -- ---- a group that was answered
@@ -416,6 +418,7 @@ module _ {D : Type 0} (honest : D → Type 0) (history : D → List Change) (old
               few = λ is. absurd cc;
               short = λ is. absurd cc;
               behind = λ is. absurd cc;
+              laid = λ is. absurd cc;
             };
         kept = λ ha hb is. absurd cc;
         given_out = λ ha hb was x y at_x at_y.

@@ -17,7 +17,7 @@ use Rattle.live_stage.specs.Found.{given_state, AllFindNow}
 use Rattle.live_stage.specs.Group.{events_in}
 use Rattle.live_stage.specs.GroupRun.{AddsToFile, FindsPrefixOfGroups, FindsWholeOfGroups, IsGroupsSoFar, IsWholeOfGroups, from_fault, tells_spent}
 use Rattle.live_stage.specs.LiveState.{LiveState}
-use Rattle.live_stage.specs.Numbers.{AreSpent, most_bytes, record_bytes}
+use Rattle.live_stage.specs.Numbers.{AreSpent, most_bytes, most_records, record_bytes}
 use Rattle.live_stage.specs.Transcript.{HasRoomFor, IsTranscript, StaysBroken, broken_after, broken_by, bytes_after, entry_of, history_of, numbers_after, replayed}
 use Rattle.live_stage.proofs.GroupLaws.{Reply}
 use Rattle.live_stage.proofs.HistoryLaws.{history_of_both, numbers_at, replayed_behind, state_at, transcript_at, transcript_parts}
@@ -233,9 +233,12 @@ module _ {D : Type 0} (first old : LiveState D) (events more : List Event) (answ
       let few = was.few usable in
       let short = was.short usable in
       let limit = ap most_bytes (was.behind usable) in
+      let most : most_records old.file.layout old.file.snapshot_len ≡ most_records first.file.layout first.file.snapshot_len =
+      ap (λ (n : ℕ). most_records n old.file.snapshot_len) (was.laid usable)
+      ∙ ap (λ (n : ℕ). most_records first.file.layout n) (was.behind usable) in
       let same = ap (λ (t : State). bytes_after t (history_of [] more replies)) at in
       record {
-        records = omega (arith, room.records, few, length-append events more);
+        records = omega (arith, room.records, few, most, length-append events more);
         bytes = omega (arith, room.bytes, both, parts, short, limit, same);
       }
 
@@ -264,6 +267,7 @@ begins honest history first kept = record {
     few = λ is. omega arith;
     short = λ is. omega arith;
     behind = λ is. refl;
+    laid = λ is. refl;
   };
   kept = kept;
   given_out = λ ha hb usable x y at_x at_y. record {
@@ -327,6 +331,7 @@ module _ {D : Type 0} (honest : D → Type 0) (history : D → List Change) (fir
               few = λ is. absurd cc;
               short = λ is. absurd cc;
               behind = λ is. absurd cc;
+              laid = λ is. absurd cc;
             };
         kept = λ ha hb is. absurd cc;
         given_out = λ ha hb usable x y at_x at_y. finds_broken first.state events more answers replies r.counted (given_state x y) (fault usable)
@@ -359,6 +364,7 @@ module _ {D : Type 0} (honest : D → Type 0) (history : D → List Change) (fir
         few = λ is. (let more_few = now.few is in omega (arith, few, more_few, length-append events more));
         short = λ is. (let more_short = now.short is in omega (arith, short, more_short, both, parts, same));
         behind = λ is. now.behind is ∙ was.behind usable;
+        laid = λ is. now.laid is ∙ was.laid usable;
       }
 
   -- it wasn't

@@ -14,18 +14,18 @@ use Rattle.daemon_core.specs.Replay.{Entry}
 use Rattle.live_stage.specs.declared.refusal.LiveError.{LiveError}
 use Rattle.live_stage.specs.declared.refusal.LiveError.TheVariants.{Broken, NoMemory}
 use Rattle.live_stage.specs.declared.staging.Begin.{Begin}
-use Rattle.live_stage.specs.Answer.{Answer}
+use Rattle.live_stage.specs.Answer.{Answer, answer_work}
 use Rattle.live_stage.specs.Found.{AllFindNow, AllFindSince, state_of}
 use Rattle.live_stage.specs.Group.{AreParted, EndsThere, IsGroup, IsNoneOrAll, IsOfFront, RefusesFront, answer_bytes, answer_looks, are_last}
-use Rattle.live_stage.specs.Group.{asked_by, bodies_after, events_in, file_with, group_file, group_takes, history_in, may_follow}
+use Rattle.live_stage.specs.Group.{asked_by, bodies_after, events_in, file_with, group_file, group_takes, group_work, history_in, may_follow}
 use Rattle.live_stage.specs.Group.{most_answer_bytes, most_looks, takes_more}
 use Rattle.live_stage.specs.LiveState.{LiveState}
-use Rattle.live_stage.specs.Numbers.{FileNumbers, Numbers, is_due, longest_record}
+use Rattle.live_stage.specs.Numbers.{FileNumbers, Numbers, greatest, is_due, longest_record}
 use Rattle.live_stage.specs.Staging.{AreStaged, AreTaken, IsGroupHandled, KeepsToBounds, begin_of, file_begun, numbers_begun}
 use Rattle.live_stage.specs.Transcript.{entry_of, history_of, numbers_after, replayed}
 use Rattle.live_stage.proofs.GroupLaws.{Reply, length-history, numbers_are_after}
-use Rattle.live_stage.proofs.PhaseLaws.{group_file_of, took_same}
-use Rattle.live_stage.proofs.TurnLaws.{ready_same}
+use Rattle.live_stage.proofs.PhaseLaws.{group_file_of, group_work_of, took_same}
+use Rattle.live_stage.proofs.TurnLaws.{ready_same, same_work}
 
 -- ---- the generation of a file doesn't count
 
@@ -61,6 +61,9 @@ module _ {D : Type 0} (old : LiveState D) (begin : Begin) (is : begin ≡ begin_
   file_same : group_file old turns ≡ old.file
   file_same = group_file_of old turns some ∙ ready_same old.state.machine.saved old.file due
 
+  work_same : group_work old turns ≡ old.work
+  work_same = group_work_of old turns some ∙ same_work old.file old.work due
+
   takes_as_begun : (front : List Answer) → takes_more old.state (numbers_begun begin) (file_begun begin) front ≡ group_takes old turns front
   takes_as_begun front = ap (λ (b : Begin). takes_more old.state (numbers_begun b) (file_begun b) front) is
       ∙ takes_any old.state old.numbers old.file 0 front
@@ -68,8 +71,9 @@ module _ {D : Type 0} (old : LiveState D) (begin : Begin) (is : begin ≡ begin_
 
   pub handled : (new : LiveState D) → new.state ≡ core → new.numbers.event ≡ old.numbers.event + length turns
       → new.numbers.last_record ≡ old.numbers.last_record + length bodies → new.file ≡ file_with old.file bodies
+      → new.work ≡ min (old.work + sum_by answer_work turns) greatest
       → IsGroupHandled old events turns is_refused rest new
-  handled new state event last file =
+  handled new state event last file work =
       let whole : List Entry = history_in turns in
       let numbers : ℕ → ℕ → Numbers = λ e l. record { event = e; last_record = l } in
       let many : length turns ≡ length whole = sym (length-history turns) in
@@ -86,6 +90,7 @@ module _ {D : Type 0} (old : LiveState D) (begin : Begin) (is : begin ≡ begin_
               ∙ sym (numbers_are_after old.state old.numbers whole);
           file = file ∙ ap (λ (l : List (List ℕ)). file_with old.file l) staged.records
               ∙ ap (λ (f : FileNumbers). file_with f (bodies_after old.state whole)) (sym file_same);
+          work = λ _. work ∙ ap (λ (n : ℕ). min (n + sum_by answer_work turns) greatest) (sym work_same);
           none = λ none. absurd (some none);
         };
         ends = record {

@@ -1,6 +1,7 @@
 -- A group in two phases, as a turn: it makes the checkpoint that is due, if one is, and then handles its events.
 use Rattle.std.proofs.Common.{◌≡◌, ◌≢◌, ◌⊎◌, inl, inr, ℕ, ◌+◌, ◌<◌, ◌≤◌, min, Bool, true, false, List, [], ◌∷◌, ◌++◌, length, map, drop, take}
 use Rattle.std.proofs.Common.{Option, Some, Result, Ok, Err, refl, sym, ap, subst, ◌∙◌, arith}
+use Rattle.std.specs.Prelude.{sum_by}
 use Rattle.std.specs.List.{AllByRecursion}
 use Rattle.std.proofs.lemmas.Bool.{and_left, and_right, lt-leb, le-ltb, or_from}
 use Rattle.std.proofs.lemmas.List.{append-nil}
@@ -19,19 +20,19 @@ use Rattle.daemon_core.specs.Step.{Stepped, step}
 use Rattle.daemon_core.specs.Replay.{Entry, stepped}
 use Rattle.live_stage.specs.declared.refusal.LiveError.{LiveError}
 use Rattle.live_stage.specs.declared.refusal.LiveError.TheVariants.{Broken, NoMemory, NumbersSpent}
-use Rattle.live_stage.specs.Answer.{Answer, IsNumbered, IsTurn, profile_of_step}
+use Rattle.live_stage.specs.Answer.{Answer, IsNumbered, IsTurn, answer_work, profile_of_step}
 use Rattle.live_stage.specs.Found.{AllFindNow, AllFindSince, state_of}
 use Rattle.live_stage.specs.Group.{AreParted, BearTheirStates, EndsThere, IsGroup, IsGroupWritten, IsNoneOrAll, IsOfFront, RefusesFront}
-use Rattle.live_stage.specs.Group.{TookEach, asked_by, bodies_after, body_of, events_in, file_with, group_content, group_file, group_takes, history_in, makes_checkpoint}
+use Rattle.live_stage.specs.Group.{TookEach, asked_by, bodies_after, body_of, events_in, file_with, group_content, group_file, group_takes, group_work, history_in, makes_checkpoint}
 use Rattle.live_stage.specs.Group.{takes_more}
 use Rattle.live_stage.specs.LiveState.{LiveState}
 use Rattle.live_stage.specs.Numbers.{FileNumbers, Numbers, is_due, longest_record, most_bytes, most_records, next_file}
-use Rattle.live_stage.specs.Numbers.{greatest, ready_file, recorded}
+use Rattle.live_stage.specs.Numbers.{greatest, ready_file, ready_work, recorded}
 use Rattle.live_stage.specs.Staging.{KeepsToBounds}
 use Rattle.live_stage.specs.Transcript.{IsStepOf, IsTranscript, entry_of, history_of, numbers_after, replayed}
 use Rattle.live_stage.specs.Turns.{IsReady, IsStored, MakesNoCall, StaysInFile, WritesAlone, WritesOneFile, ready_content}
 use Rattle.live_stage.proofs.GroupLaws.{Reply, body_takes, file_put_off}
-use Rattle.live_stage.proofs.TurnLaws.{IsOtherKept, join_pairs, one_file, one_file_written, other_join, ready_made, ready_same}
+use Rattle.live_stage.proofs.TurnLaws.{IsOtherKept, join_pairs, one_file, one_file_written, other_join, ready_made, ready_same, records_at_least, same_work, undue}
 
 -- ---- refusals
 
@@ -120,7 +121,7 @@ laid_undue : (b : Bool) (s : SavedState) (file : FileNumbers) → is_due file �
 laid_undue true s file is =
     let made : ready_file s file ≡ next_file s file = rw is refl in
     let laid = next_file s file in
-    ap is_due made ∙ or_from _ _ (lt-leb most_records laid.records (omega arith)) (le-ltb (most_bytes laid.snapshot_len) laid.bytes (omega arith))
+    ap is_due made ∙ undue laid (omega (arith, records_at_least laid.layout laid.snapshot_len)) (omega arith)
 laid_undue false s file is = ap is_due (ready_same s file is) ∙ is
 
 -- a stage that is ready has no checkpoint due
@@ -132,6 +133,10 @@ pub group_file_of : {D : Type 0} (old : LiveState D) (turns : List Answer) → t
     → group_file old turns ≡ ready_file old.state.machine.saved old.file
 group_file_of old [] some = absurd (some refl)
 group_file_of old (t ∷ turns) some = refl
+
+pub group_work_of : {D : Type 0} (old : LiveState D) (turns : List Answer) → turns ≢ [] → group_work old turns ≡ ready_work old.file old.work
+group_work_of old [] some = absurd (some refl)
+group_work_of old (t ∷ turns) some = refl
 
 group_content_of : {D : Type 0} (old : LiveState D) (turns : List Answer) → turns ≢ [] → group_content old turns ≡ ready_content old
 group_content_of old [] some = absurd (some refl)
@@ -177,6 +182,11 @@ module _ {D : Type 0} (old ready new : LiveState D) (got : IsReady old ready) (t
       group_file_of ready turns some ∙ ready_same ready.state.machine.saved ready.file (ready_due old ready got) ∙ got.file
       ∙ sym (group_file_of old turns some)
 
+  same_work_in : group_work ready turns ≡ group_work old turns
+  same_work_in =
+      group_work_of ready turns some ∙ same_work ready.file ready.work (ready_due old ready got) ∙ got.work
+      ∙ sym (group_work_of old turns some)
+
   pub group_from : IsGroup ready turns new → IsGroup old turns new
   group_from made = record {
     transcript = transcript_from ready old [] turns got.state got.numbers made.transcript;
@@ -187,6 +197,7 @@ module _ {D : Type 0} (old ready new : LiveState D) (got : IsReady old ready) (t
         ∙ ap (λ (n : Numbers). numbers_after old.state n (history_in turns)) got.numbers;
     file = made.file ∙ ap (λ (f : FileNumbers). file_with f (bodies_after ready.state (history_in turns))) same_file
         ∙ ap (λ (s : State). file_with (group_file old turns) (bodies_after s (history_in turns))) got.state;
+    work = λ more. made.work more ∙ ap (λ (n : ℕ). min (n + sum_by answer_work turns) greatest) same_work_in;
     none = λ none. absurd (some none);
   }
 
@@ -218,7 +229,8 @@ module _ {D : Type 0} (old ready new : LiveState D) (got : IsReady old ready) (t
         ∙ ap (λ (s : State). with_records (ready_content old) (bodies_after s (history_in turns))) got.state
         ∙ ap (λ (k : Content). with_records k (bodies_after old.state (history_in turns))) (sym (group_content_of old turns some));
     stored = stored;
-    few = λ _ none. subst (λ (f : FileNumbers). f.records ≤ most_records) stored.file (bounds.few (put_off_from made none));
+    few = λ _ none. subst (λ (f : FileNumbers). f.records ≤ most_records f.layout f.snapshot_len) stored.file
+        (bounds.few (put_off_from made none));
     short = λ _ none. subst (λ (f : FileNumbers). f.bytes ≤ most_bytes f.snapshot_len + longest_record) stored.file
         (bounds.short (put_off_from made none));
   }
@@ -247,6 +259,7 @@ no_group old turns none = subst (λ (l : List Answer). IsGroup old l old) (sym n
   event = omega arith;
   numbers = refl;
   file = refl;
+  work = λ some. absurd (some refl);
   none = λ _. refl;
 })
 
@@ -271,6 +284,7 @@ pub one_is_a_turn : {D : Type 0} (old new : LiveState D) (t : Answer) → IsGrou
 one_is_a_turn old new t made =
     let one = made.transcript.0 in
     let asked : Stepped = step old.state t.asked t.refused_at in
+    let one_alone : sum_by answer_work (t ∷ []) ≡ answer_work t = omega arith in
     record {
       state = made.state;
       outputs = one.outputs;
@@ -280,4 +294,5 @@ one_is_a_turn old new t made =
       numbered = one.numbered;
       numbers = made.numbers;
       file = made.file ∙ one_recorded (profile_of_step asked) (ready_file old.state.machine.saved old.file) asked.ops;
+      work = made.work (λ none. cc) ∙ ap (λ (n : ℕ). min (ready_work old.file old.work + n) greatest) one_alone;
     }

@@ -15,7 +15,7 @@ use Rattle.daemon_core.proofs.HistoryLaws.{outputs_are_replies}
 use Rattle.live_stage.specs.declared.refusal.LiveError.{LiveError}
 use Rattle.live_stage.specs.declared.refusal.LiveError.TheVariants.{Broken, NoMemory, NumbersSpent}
 use Rattle.live_stage.specs.Answer.{Answer, IsTurn, IsNumbered, profile_of_step}
-use Rattle.live_stage.specs.Numbers.{Numbers, FileNumbers, next_numbers, is_due, most_bytes, record_bytes, recorded, AreSpent}
+use Rattle.live_stage.specs.Numbers.{Numbers, FileNumbers, next_numbers, is_due, most_bytes, most_records, record_bytes, recorded, AreSpent}
 use Rattle.live_stage.specs.Turns.{WritesOneFile, RefusesInOrder, IsReady, IsStill, writes_to_b}
 use Rattle.state_codec.specs.declared.op.Op.{Op}
 use Rattle.live_stage.specs.LiveState.{LiveState}
@@ -175,6 +175,7 @@ pub record IsInFile {D : Type 0} (first now : LiveState D) (events : List Event)
   pub few : now.is_broken ≡ false → now.file.records ≤ first.file.records + length events
   pub short : now.is_broken ≡ false → now.file.bytes ≤ first.file.bytes + bytes_after first.state (whole_of events answers)
   pub behind : now.is_broken ≡ false → now.file.snapshot_len ≡ first.file.snapshot_len
+  pub laid : now.is_broken ≡ false → now.file.layout ≡ first.file.layout
 
 pub record IsRunSoFar {D : Type 0} (honest : D → Type 0) (history : D → List Change) (first now : LiveState D) (events : List Event)
     (answers : List Reply) : Type 0 where
@@ -226,6 +227,7 @@ begins honest history first kept = record {
     few = λ is. omega arith;
     short = λ is. omega arith;
     behind = λ is. refl;
+    laid = λ is. refl;
   };
   kept = kept;
   given_out = λ ha hb usable broken. absurd cc;
@@ -338,7 +340,10 @@ room_undue first old events answers event answer same usable room was =
     let few = was.few usable in
     let short = was.short usable in
     let limit : most_bytes old.file.snapshot_len ≡ most_bytes first.file.snapshot_len = ap most_bytes (was.behind usable) in
-    undue old.file (omega (arith, room.records, few, length-append events (event ∷ [])))
+    let most : most_records old.file.layout old.file.snapshot_len ≡ most_records first.file.layout first.file.snapshot_len =
+    ap (λ (n : ℕ). most_records n old.file.snapshot_len) (was.laid usable)
+    ∙ ap (λ (n : ℕ). most_records first.file.layout n) (was.behind usable) in
+    undue old.file (omega (arith, room.records, few, most, length-append events (event ∷ [])))
     (omega (arith, room.bytes, short, limit, less_bytes first.state events answers event answer same))
 
 -- an event that changed nothing was refused
@@ -373,6 +378,7 @@ refused_still honest history first old events answers event e r so_broken was_br
             short = λ is.
                 (let short = was.short is in omega (arith, short, less_bytes first.state events answers event (Err e) r.counted));
             behind = was.behind;
+            laid = was.laid;
           };
       kept = r.kept;
       given_out = λ ha hb usable b x y at_x at_y. whole_kept_refused first.state events answers event e _ r.counted
@@ -438,6 +444,7 @@ record AddsOne {D : Type 0} (first old new : LiveState D) (events : List Event) 
   short : new.file.bytes + bytes_after first.state (whole_of events answers)
       ≤ old.file.bytes + bytes_after first.state (whole_of (events ++ event ∷ []) (answers ++ answer ∷ []))
   behind : new.file.snapshot_len ≡ old.file.snapshot_len
+  laid : new.file.layout ≡ old.file.layout
 
 -- a turn more in a run that has room for it
 in_file_on : {D : Type 0} (honest : D → Type 0) (history : D → List Change) (first old new : LiveState D) (events : List Event)
@@ -458,6 +465,7 @@ in_file_on honest history first old new events answers event answer usable r m r
       few = λ fine. (let grown = one fine is in omega (arith, few, grown.few, length-append events (event ∷ [])));
       short = λ fine. (let grown = one fine is in omega (arith, short, grown.short));
       behind = λ fine. (let grown = one fine is in grown.behind ∙ was.behind usable);
+      laid = λ fine. (let grown = one fine is in grown.laid ∙ was.laid usable);
     }
 
 -- an event that was answered adds one record at most, where no checkpoint was due
@@ -481,6 +489,7 @@ answered_few honest history first old new events answers event t usable r m fine
       few = omega (arith, one.few, ap (λ (f : FileNumbers). f.records) after);
       short = omega (arith, one.short, ap (λ (f : FileNumbers). f.bytes) after, same, longer);
       behind = ap (λ (f : FileNumbers). f.snapshot_len) after ∙ one.behind;
+      laid = ap (λ (f : FileNumbers). f.layout) after ∙ one.laid;
     }
 
 -- memory was refused behind a checkpoint, or for it
@@ -518,6 +527,7 @@ refused_ready {D} honest history first old new events answers event usable ready
             few = λ is. omega (arith, few, length-append events (event ∷ []));
             short = λ is. omega (arith, short, less_bytes first.state events answers event (Err NoMemory) r.counted);
             behind = was.behind;
+            laid = was.laid;
           });
       kept = λ ha hb is. m.kept (r.honest_a.0 ha) (r.honest_b.0 hb) is;
       given_out = λ ha hb first_usable b. (let not = ready.usable in absurd cc);

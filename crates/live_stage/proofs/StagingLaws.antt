@@ -20,7 +20,7 @@ use Rattle.live_stage.specs.Group.{AreParted, TookEach, answer_bytes, answer_loo
 use Rattle.live_stage.specs.Group.{may_follow, takes_more}
 use Rattle.live_stage.specs.Numbers.{FileNumbers, greatest, is_due, longest_record, most_bytes, most_records, record_bytes}
 use Rattle.live_stage.specs.Staging.{AddsStep, AreStaged, AreTaken, IsAnswerOf, KeepsToBounds, file_begun, numbers_begun, numbers_staged}
-use Rattle.live_stage.proofs.GroupLaws.{MayFollow, asked_on, body_takes, body_few, file_bytes, file_put_off, file_records, file_snapshot}
+use Rattle.live_stage.proofs.GroupLaws.{MayFollow, asked_on, body_takes, body_few, file_bytes, file_layout, file_put_off, file_records, file_snapshot}
 use Rattle.live_stage.proofs.GroupLaws.{may_follow_says, none_staged, staged_on, takes_as, took_on}
 use Rattle.live_stage.proofs.TurnLaws.{KeepsTo, keeps_to}
 
@@ -69,7 +69,18 @@ one_bounded p file bodies ops fits undue short =
     let kept = λ (made : (let f = file_with file all in f.is_put_off) ≡ false).
     keeps_to (file_with file bodies) (put_off_before file bodies all made) undue in
     record {
-      few = λ made. omega (arith, (kept made).few, file_records file bodies, file_records file all, length-append bodies (body_of p ops), body_few p ops);
+      few = λ made. omega (
+        arith,
+        (kept made).few,
+        file_records file bodies,
+        file_records file all,
+        length-append bodies (body_of p ops),
+        body_few p ops,
+        ap (λ (n : ℕ). most_records n (let f : FileNumbers = file_with file bodies in f.snapshot_len)) (file_layout file bodies),
+        ap (λ (n : ℕ). most_records file.layout n) (file_snapshot file bodies),
+        ap (λ (n : ℕ). most_records n (let f : FileNumbers = file_with file all in f.snapshot_len)) (file_layout file all),
+        ap (λ (n : ℕ). most_records file.layout n) (file_snapshot file all),
+      );
       short = λ made. omega (
         arith,
         (kept made).short,

@@ -2,19 +2,20 @@
 use Rattle.std.proofs.Common.{◌≡◌, ◌⊎◌, inl, inr, ℕ, ◌+◌, ◌<◌, ◌≤◌, min, Bool, true, false, not, ◌&&◌, ◌||◌, nat_le, nat_lt, List, [], ◌∷◌}
 use Rattle.std.proofs.Common.{◌++◌, length, length-append, Option, Some}
 use Rattle.std.proofs.Common.{Result, Ok, Err, refl, sym, ap, subst, ◌∙◌, arith}
-use Rattle.std.specs.Prelude.{MatchBool, if◌then◌else◌}
+use Rattle.std.specs.Prelude.{MatchBool, ◌/◌, ◌==◌, max, if◌then◌else◌}
 use Rattle.std.proofs.lemmas.Bool.{and_right, lt-leb, le-ltb, leb-false, ltb-false, or_from, or_parts}
 use Rattle.std.proofs.lemmas.List.{nil_from_length}
 use Rattle.disk_model.specs.History.{Change}
 use Rattle.disk_model.specs.Moments.{LeftSince, Continues}
 use Rattle.disk_model.proofs.MomentLaws.{now_only, left_split}
 use Rattle.play_journal.specs.Calls.{IsNew, IsNextGeneration, AreItsNumbers, StaysInFile as StaysInItsFile}
-use Rattle.play_journal.specs.Content.{Content, IsEither}
+use Rattle.play_journal.specs.Content.{Content, IsEither, third_layout}
 use Rattle.play_journal.specs.File.{longest_body}
 use Rattle.play_journal.specs.JournalState.{JournalState}
 use Rattle.play_journal.specs.Pair.{AllPairsNow, AllPairsSince}
 use Rattle.profile.specs.declared.profile.Profile.{Profile}
 use Rattle.state_codec.specs.declared.op.Op.{Op}
+use Rattle.state_codec.specs.Layout.{written_layout}
 use Rattle.state_codec.specs.SavedState.{SavedState}
 use Rattle.state_codec.specs.Spelling.{body_bytes}
 use Rattle.daemon_core.specs.declared.event.Event.{Event}
@@ -25,36 +26,49 @@ use Rattle.live_stage.specs.Answer.{Answer, IsBeforeOrAfter, IsHandled, IsTurn, 
 use Rattle.live_stage.specs.Found.{AllFindNow, AllFindSince}
 use Rattle.live_stage.specs.LiveState.{LiveState}
 use Rattle.live_stage.specs.Numbers.{Numbers, FileNumbers, is_due, most_records, most_bytes, longest_record, next_file}
-use Rattle.live_stage.specs.Numbers.{first_file, first_numbers, greatest, next_numbers, ready_file, record_bytes, recorded, file_found, snapshot_size}
+use Rattle.live_stage.specs.Numbers.{first_file, first_numbers, greatest, next_numbers, ready_file, ready_work, record_bytes, recorded, file_found, snapshot_size}
 use Rattle.live_stage.specs.Turns.{IsReady, IsStill, IsStored, IsWritten, StaysInFile, MakesNoCall, WritesAlone, WritesOneFile}
 use Rattle.live_stage.specs.Turns.{ready_content, recorded_content, writes_to_b}
 use Rattle.live_stage.specs.Writing.{file_of}
 
 -- ---- what is due
 
+cond_least : (b : Bool) (snapshot_len : ℕ) → 4096 ≤ (if b then max 4096 (snapshot_len / 1024) else 4096)
+cond_least true snapshot_len = omega arith
+cond_least false snapshot_len = omega arith
+
+-- of fewer records than this it never is
+pub records_at_least : (layout snapshot_len : ℕ) → 4096 ≤ most_records layout snapshot_len
+records_at_least layout snapshot_len = cond_least (layout == third_layout) snapshot_len
+
 -- below the limits nothing is
-pub undue : (file : FileNumbers) → file.records < most_records → file.bytes ≤ most_bytes file.snapshot_len → is_due file ≡ false
+pub undue : (file : FileNumbers) → file.records < most_records file.layout file.snapshot_len → file.bytes ≤ most_bytes file.snapshot_len
+    → is_due file ≡ false
 undue file few short =
     and_right (not file.is_put_off) _
-    (or_from _ _ (lt-leb most_records file.records few) (le-ltb (most_bytes file.snapshot_len) file.bytes short))
+    (or_from _ _ (lt-leb (most_records file.layout file.snapshot_len) file.records few) (le-ltb (most_bytes file.snapshot_len) file.bytes short))
 
 -- a file at which no checkpoint is due keeps to the limits, unless one is put off
 pub record KeepsTo (file : FileNumbers) : Type 0 where
-  pub few : file.records < most_records
+  pub few : file.records < most_records file.layout file.snapshot_len
   pub short : file.bytes ≤ most_bytes file.snapshot_len
 
 pub keeps_to : (file : FileNumbers) → file.is_put_off ≡ false → is_due file ≡ false → KeepsTo file
 keeps_to file made is =
-    let limits : Bool = nat_le most_records file.records || nat_lt (most_bytes file.snapshot_len) file.bytes in
+    let most : ℕ = most_records file.layout file.snapshot_len in
+    let limits : Bool = nat_le most file.records || nat_lt (most_bytes file.snapshot_len) file.bytes in
     let within : limits ≡ false = ap (λ (put_off : Bool). not put_off && limits) (sym made) ∙ is in
     let both = or_parts _ _ within in
     record {
-      few = leb-false most_records file.records both.0;
+      few = leb-false most file.records both.0;
       short = ltb-false (most_bytes file.snapshot_len) file.bytes both.1;
     }
 
 pub ready_same : (s : SavedState) (file : FileNumbers) → is_due file ≡ false → ready_file s file ≡ file
 ready_same s file is = rw is refl
+
+pub same_work : (file : FileNumbers) (work : ℕ) → is_due file ≡ false → ready_work file work ≡ work
+same_work file work is = rw is refl
 
 -- ---- a checkpoint that is put off
 
@@ -81,10 +95,11 @@ pub record IsOneMore (p : Profile) (before after : FileNumbers) (ops : List Op) 
   pub few : after.records ≤ before.records + 1
   pub short : after.bytes ≤ before.bytes + record_bytes p ops
   pub behind : after.snapshot_len ≡ before.snapshot_len
+  pub laid : after.layout ≡ before.layout
 
 pub recorded_one : (p : Profile) (file : FileNumbers) (ops : List Op) → IsOneMore p file (recorded p file ops) ops
-recorded_one p file [] = record { few = omega arith; short = omega arith; behind = refl }
-recorded_one p file (op ∷ ops) = record { few = omega arith; short = omega arith; behind = refl }
+recorded_one p file [] = record { few = omega arith; short = omega arith; behind = refl; laid = refl }
+recorded_one p file (op ∷ ops) = record { few = omega arith; short = omega arith; behind = refl; laid = refl }
 
 pub record_short : (p : Profile) (ops : List Op) → length (body_bytes p ops) ≤ longest_body → record_bytes p ops ≤ longest_record
 record_short p [] short = omega arith
@@ -96,54 +111,62 @@ pub file_recorded : {D : Type 0} (p : Profile) (old new : JournalState D) (ops :
     → file_of new ≡ recorded p (file_of old) ops
 file_recorded p old new [] some stays count bytes = absurd (some refl)
 file_recorded p old new (op ∷ ops) some stays count bytes =
-    let numbers : ℕ → ℕ → ℕ → ℕ → FileNumbers = λ generation snapshot_len records bytes. record {
+    let numbers : ℕ → ℕ → ℕ → ℕ → ℕ → FileNumbers = λ layout generation snapshot_len records bytes. record {
+      layout = layout;
       generation = generation;
       snapshot_len = snapshot_len;
       records = records;
       bytes = bytes;
       is_put_off = false;
     } in
-    ap (λ (n : ℕ). numbers n new.snapshot_len new.count new.bytes) stays.generation
-    ∙ ap (λ (n : ℕ). numbers old.generation n new.count new.bytes) stays.snapshot_len
-    ∙ ap (λ (n : ℕ). numbers old.generation old.snapshot_len n new.bytes) count
-    ∙ ap (λ (n : ℕ). numbers old.generation old.snapshot_len (old.count + 1) n) bytes
+    ap (λ (n : ℕ). numbers n new.generation new.snapshot_len new.count new.bytes) stays.layout
+    ∙ ap (λ (n : ℕ). numbers old.layout n new.snapshot_len new.count new.bytes) stays.generation
+    ∙ ap (λ (n : ℕ). numbers old.layout old.generation n new.count new.bytes) stays.snapshot_len
+    ∙ ap (λ (n : ℕ). numbers old.layout old.generation old.snapshot_len n new.bytes) count
+    ∙ ap (λ (n : ℕ). numbers old.layout old.generation old.snapshot_len (old.count + 1) n) bytes
 
 pub file_kept : {D : Type 0} (p : Profile) (old new : JournalState D) (ops : List Op) → ops ≡ [] → new ≡ old
     → file_of new ≡ recorded p (file_of old) ops
 file_kept {D} p old new ops none same = ap (λ (j : JournalState D). file_of j) same ∙ ap (λ (o : List Op). recorded p (file_of old) o) (sym none)
 
 -- the file that a checkpoint lays down
-pub file_laid : {D : Type 0} (faults : D → ℕ) (old new : JournalState D) (layout : ℕ) (s : SavedState)
-    → IsNextGeneration faults old new layout (snapshot_size s)
+pub file_laid : {D : Type 0} (faults : D → ℕ) (old new : JournalState D) (s : SavedState)
+    → IsNextGeneration faults old new (written_layout s.profile) (snapshot_size s)
     → file_of new ≡ next_file s (file_of old)
-file_laid faults old new layout s is =
-    let numbers : ℕ → ℕ → ℕ → ℕ → FileNumbers = λ generation snapshot_len records bytes. record {
+file_laid faults old new s is =
+    let own : ℕ = written_layout s.profile in
+    let numbers : ℕ → ℕ → ℕ → ℕ → ℕ → FileNumbers = λ layout generation snapshot_len records bytes. record {
+      layout = layout;
       generation = generation;
       snapshot_len = snapshot_len;
       records = records;
       bytes = bytes;
       is_put_off = false;
     } in
-    ap (λ (n : ℕ). numbers n new.snapshot_len new.count new.bytes) is.generation
-    ∙ ap (λ (n : ℕ). numbers (old.generation + 1) n new.count new.bytes) is.snapshot_len
-    ∙ ap (λ (n : ℕ). numbers (old.generation + 1) (snapshot_size s) n new.bytes) is.count
-    ∙ ap (λ (n : ℕ). numbers (old.generation + 1) (snapshot_size s) 0 n) is.bytes
+    ap (λ (n : ℕ). numbers n new.generation new.snapshot_len new.count new.bytes) is.layout
+    ∙ ap (λ (n : ℕ). numbers own n new.snapshot_len new.count new.bytes) is.generation
+    ∙ ap (λ (n : ℕ). numbers own (old.generation + 1) n new.count new.bytes) is.snapshot_len
+    ∙ ap (λ (n : ℕ). numbers own (old.generation + 1) (snapshot_size s) n new.bytes) is.count
+    ∙ ap (λ (n : ℕ). numbers own (old.generation + 1) (snapshot_size s) 0 n) is.bytes
 
 -- the file and the numbers of a journal that was just made
 pub file_made : {D : Type 0} (faults : D → ℕ) (a b : D) (journal : JournalState D) (layout size : ℕ) (s : SavedState)
-    → IsNew faults a b journal layout size → size ≡ snapshot_size s → file_of journal ≡ first_file s
-file_made faults a b journal layout size s is long =
-    let numbers : ℕ → ℕ → ℕ → ℕ → FileNumbers = λ generation snapshot_len records bytes. record {
+    → IsNew faults a b journal layout size → layout ≡ written_layout s.profile → size ≡ snapshot_size s → file_of journal ≡ first_file s
+file_made faults a b journal layout size s is written long =
+    let own : ℕ = written_layout s.profile in
+    let numbers : ℕ → ℕ → ℕ → ℕ → ℕ → FileNumbers = λ layout generation snapshot_len records bytes. record {
+      layout = layout;
       generation = generation;
       snapshot_len = snapshot_len;
       records = records;
       bytes = bytes;
       is_put_off = false;
     } in
-    ap (λ (n : ℕ). numbers n journal.snapshot_len journal.count journal.bytes) is.generation
-    ∙ ap (λ (n : ℕ). numbers 1 n journal.count journal.bytes) (is.snapshot_len ∙ long)
-    ∙ ap (λ (n : ℕ). numbers 1 (snapshot_size s) n journal.bytes) is.count
-    ∙ ap (λ (n : ℕ). numbers 1 (snapshot_size s) 0 n) is.bytes
+    ap (λ (n : ℕ). numbers n journal.generation journal.snapshot_len journal.count journal.bytes) (is.layout ∙ written)
+    ∙ ap (λ (n : ℕ). numbers own n journal.snapshot_len journal.count journal.bytes) is.generation
+    ∙ ap (λ (n : ℕ). numbers own 1 n journal.count journal.bytes) (is.snapshot_len ∙ long)
+    ∙ ap (λ (n : ℕ). numbers own 1 (snapshot_size s) n journal.bytes) is.count
+    ∙ ap (λ (n : ℕ). numbers own 1 (snapshot_size s) 0 n) is.bytes
 
 pub numbers_made : {D : Type 0} (faults : D → ℕ) (a b : D) (journal : JournalState D) (layout size : ℕ)
     → IsNew faults a b journal layout size → record { event = 0; last_record = min (journal.base + journal.count) greatest } ≡ first_numbers
@@ -169,21 +192,23 @@ numbers_next old new event (op ∷ ops) below base none some =
 pub file_is : {D : Type 0} (journal : JournalState D) → AreItsNumbers journal → file_of journal ≡ file_found journal.content
 file_is journal is =
     let content = journal.content in
-    let numbers : ℕ → ℕ → ℕ → ℕ → FileNumbers = λ generation snapshot_len records bytes. record {
+    let numbers : ℕ → ℕ → ℕ → ℕ → ℕ → FileNumbers = λ layout generation snapshot_len records bytes. record {
+      layout = layout;
       generation = generation;
       snapshot_len = snapshot_len;
       records = records;
       bytes = bytes;
       is_put_off = false;
     } in
-    ap (λ (n : ℕ). numbers n journal.snapshot_len journal.count journal.bytes) (sym is.generation)
-    ∙ ap (λ (n : ℕ). numbers content.generation n journal.count journal.bytes) (sym is.measured.snapshot)
-    ∙ ap (λ (n : ℕ). numbers content.generation (length content.snapshot) n journal.bytes) (sym is.count)
-    ∙ ap (λ (n : ℕ). numbers content.generation (length content.snapshot) (length content.records) n) (sym is.measured.records)
+    ap (λ (n : ℕ). numbers n journal.generation journal.snapshot_len journal.count journal.bytes) (sym is.layout)
+    ∙ ap (λ (n : ℕ). numbers content.layout n journal.snapshot_len journal.count journal.bytes) (sym is.generation)
+    ∙ ap (λ (n : ℕ). numbers content.layout content.generation n journal.count journal.bytes) (sym is.measured.snapshot)
+    ∙ ap (λ (n : ℕ). numbers content.layout content.generation (length content.snapshot) n journal.bytes) (sym is.count)
+    ∙ ap (λ (n : ℕ). numbers content.layout content.generation (length content.snapshot) (length content.records) n) (sym is.measured.records)
 
 -- behind a turn that made the checkpoint that was due, if one was
 pub record IsBounded (file : FileNumbers) : Type 0 where
-  pub few : file.records ≤ most_records
+  pub few : file.records ≤ most_records file.layout file.snapshot_len
   pub short : file.bytes ≤ most_bytes file.snapshot_len + longest_record
 
 pub bounded : (b : Bool) (p : Profile) (s : SavedState) (file after : FileNumbers) (ops : List Op) → file.is_put_off ≡ false → is_due file ≡ b
@@ -193,7 +218,8 @@ bounded true p s file after ops none is made small =
     let is_after : after ≡ recorded p (next_file s file) ops = made ∙ ap (λ (f : FileNumbers). recorded p f ops) ready in
     let one = recorded_one p (next_file s file) ops in
     subst IsBounded (sym is_after) (record {
-      few = omega (arith, one.few);
+      few = (let least = records_at_least (let f : FileNumbers = recorded p (next_file s file) ops in f.layout)
+          (let f : FileNumbers = recorded p (next_file s file) ops in f.snapshot_len) in omega (arith, one.few, least));
       short = omega (arith, one.short, small);
     })
 bounded false p s file after ops none is made small =
@@ -201,7 +227,13 @@ bounded false p s file after ops none is made small =
     let one = recorded_one p file ops in
     let kept = keeps_to file none is in
     subst IsBounded (sym is_after) (record {
-      few = omega (arith, one.few, kept.few);
+      few = omega (
+        arith,
+        one.few,
+        kept.few,
+        ap (λ (n : ℕ). most_records n (let f : FileNumbers = recorded p file ops in f.snapshot_len)) one.laid,
+        ap (λ (n : ℕ). most_records file.layout n) one.behind,
+      );
       short = omega (arith, one.short, small, kept.short, ap most_bytes one.behind);
     })
 
@@ -339,7 +371,8 @@ written_by history old ready new p ops own first more file small stored =
       says = more ∙ ap (λ (k : Content). recorded_content p k ops) first
           ∙ ap (λ (q : Profile). recorded_content q (ready_content old) ops) (sym own);
       stored = stored;
-      few = λ none. (let kept = bounds none in subst (λ (f : FileNumbers). f.records ≤ most_records) stored.file kept.few);
+      few = λ none. (let kept = bounds none in
+          subst (λ (f : FileNumbers). f.records ≤ most_records f.layout f.snapshot_len) stored.file kept.few);
       short = λ none. (let kept = bounds none in
           subst (λ (f : FileNumbers). f.bytes ≤ most_bytes f.snapshot_len + longest_record) stored.file kept.short);
     }
@@ -349,9 +382,11 @@ module _ {D : Type 0} (old ready new : LiveState D) (event : Event) (got : IsRea
   turn_made t made =
       let asked : State → Stepped = λ (s : State). step s event t.refused_at in
       let file : FileNumbers = ready_file old.state.machine.saved old.file in
-      subst (λ (s : State). IsTurnOf (asked s) old.numbers file t new) got.state
-      (subst (λ (n : Numbers). IsTurnOf (asked ready.state) n file t new) got.numbers
-      (subst (λ (f : FileNumbers). IsTurnOf (asked ready.state) ready.numbers f t new) got.file made))
+      let work : ℕ = ready_work old.file old.work in
+      subst (λ (s : State). IsTurnOf (asked s) old.numbers file work t new) got.state
+      (subst (λ (n : Numbers). IsTurnOf (asked ready.state) n file work t new) got.numbers
+      (subst (λ (f : FileNumbers). IsTurnOf (asked ready.state) ready.numbers f work t new) got.file
+      (subst (λ (n : ℕ). IsTurnOf (asked ready.state) ready.numbers ready.file n t new) got.work made)))
 
   pub written : (history : D → List Change) (t : Answer) → IsHandled ready event t new → ready.content ≡ ready_content old
       → (let now : Stepped = step ready.state event t.refused_at in new.content ≡ recorded_content (profile_of_step now) ready.content now.ops)

@@ -1,5 +1,5 @@
 -- What a turn answers.
-use Rattle.std.specs.Prelude.{◌≡◌, ◌⊎◌, ℕ, ◌+◌, List, [], Option, Some, Bool}
+use Rattle.std.specs.Prelude.{◌≡◌, ◌⊎◌, ℕ, ◌+◌, min, List, [], Option, Some, Bool, is_some, if◌then◌else◌}
 use Rattle.profile.specs.declared.profile.Profile.{Profile}
 use Rattle.state_codec.specs.declared.op.Op.{Op}
 use Rattle.state_codec.specs.SavedState.{SavedState}
@@ -9,7 +9,7 @@ use Rattle.daemon_core.specs.State.{State}
 use Rattle.daemon_core.specs.Step.{Stepped, step}
 use Rattle.live_stage.specs.declared.turn.Receipt.{Receipt}
 use Rattle.live_stage.specs.LiveState.{LiveState}
-use Rattle.live_stage.specs.Numbers.{Numbers, FileNumbers, next_numbers, record_number, ready_file, recorded}
+use Rattle.live_stage.specs.Numbers.{Numbers, FileNumbers, greatest, next_numbers, record_number, ready_file, ready_work, recorded}
 
 -- What is given out for an event, its number, its receipt, and, for contracts alone, the event and the state before it.
 pub record Answer : Type 0 where
@@ -26,6 +26,10 @@ pub record Answer : Type 0 where
 abbrev pub IsOfItsEvent : Answer → Type 0
 IsOfItsEvent t = let now = step t.before t.asked t.refused_at in t.outputs ≡ now.outputs
 
+-- how much the event of an answer adds to the work of the records: what it looked at, if it made one
+abbrev pub answer_work : Answer → ℕ
+answer_work t = if is_some t.receipt.number then (let now = step t.before t.asked t.refused_at in now.looks) else 0
+
 -- an answer and its receipt bear the numbers that follow on these
 pub record IsNumbered (before : Numbers) (ops : List Op) (t : Answer) : Type 0 where
   pub event : t.event ≡ before.event + 1
@@ -36,8 +40,10 @@ pub record IsNumbered (before : Numbers) (ops : List Op) (t : Answer) : Type 0 w
 abbrev pub profile_of_step : Stepped → Profile
 profile_of_step st = st.after.machine.saved.profile
 
--- the state after a turn and its answer are those of a step, and its record, if it made one, stands in the file of these numbers
-pub record IsTurnOf {D : Type 0} (st : Stepped) (before : Numbers) (of_file : FileNumbers) (t : Answer) (after : LiveState D) : Type 0 where
+-- The state after a turn and its answer are those of a step, and its record, if it made one, stands in the file of these numbers, before
+-- which the events of its records had looked at so much.
+pub record IsTurnOf {D : Type 0} (st : Stepped) (before : Numbers) (of_file : FileNumbers) (of_work : ℕ) (t : Answer) (after : LiveState D)
+    : Type 0 where
   pub state : after.state ≡ st.after
   pub outputs : t.outputs ≡ st.outputs
   pub closes : t.closes ≡ st.closes
@@ -46,16 +52,17 @@ pub record IsTurnOf {D : Type 0} (st : Stepped) (before : Numbers) (of_file : Fi
   pub numbered : IsNumbered before st.ops t
   pub numbers : after.numbers ≡ next_numbers before st.ops
   pub file : after.file ≡ recorded (profile_of_step st) of_file st.ops
+  pub work : after.work ≡ min (of_work + answer_work t) greatest
 
 -- An event was handled by its step, where memory was refused at the place that its answer names. Its record went to the file that was
 -- in use.
 abbrev pub IsHandled : {D : Type 0} → LiveState D → Event → Answer → LiveState D → Type 0
-IsHandled before event t after = IsTurnOf (step before.state event t.refused_at) before.numbers before.file t after
+IsHandled before event t after = IsTurnOf (step before.state event t.refused_at) before.numbers before.file before.work t after
 
 -- a turn is the step of its event, and its record goes to the file that is ready for it
 abbrev pub IsTurn : {D : Type 0} → LiveState D → Event → Answer → LiveState D → Type 0
 IsTurn before event t after = IsTurnOf (step before.state event t.refused_at) before.numbers
-    (ready_file before.state.machine.saved before.file) t after
+    (ready_file before.state.machine.saved before.file) (ready_work before.file before.work) t after
 
 -- a restart finds the saved state from before an event, or from after it, where memory was refused at this place
 abbrev pub IsBeforeOrAfter : State → Event → Option ℕ → Option SavedState → Type 0

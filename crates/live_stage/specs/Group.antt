@@ -18,7 +18,7 @@ use Rattle.daemon_core.specs.Step.{Stepped, step}
 use Rattle.live_stage.specs.declared.turns.RefusedTurns.{RefusedTurns}
 use Rattle.live_stage.specs.declared.refusal.LiveError.{LiveError}
 use Rattle.live_stage.specs.declared.refusal.LiveError.TheVariants.{Broken}
-use Rattle.live_stage.specs.Answer.{Answer, profile_of_step}
+use Rattle.live_stage.specs.Answer.{Answer, answer_work, profile_of_step}
 use Rattle.live_stage.specs.LiveState.{LiveState}
 use Rattle.live_stage.specs.Numbers.{Numbers, FileNumbers, greatest, is_due, longest_record, most_bytes, most_records, next_file}
 use Rattle.live_stage.specs.Transcript.{entry_of, history_of, replayed, numbers_after, IsTranscript}
@@ -79,8 +79,8 @@ most_answer_bytes = 1048576
 abbrev pub answer_bytes : Answer → ℕ
 answer_bytes t = sum_by (λ o. length o.bytes) t.outputs
 
--- The most that the events of a group look at behind which another event is taken: as much as one request may. So a group looks at twice as
--- much at most, and one of 64 cheap requests doesn't come to it.
+-- The most that the events of a group look at behind which another event is taken: as much as is counted of one request. So a group looks
+-- at twice as much at most, as it is counted, and one of 64 cheap requests doesn't come to it.
 abbrev pub most_looks : ℕ
 most_looks = max_looks
 
@@ -117,6 +117,10 @@ TookEach takes before (t ∷ turns) = (takes before ≡ true) × TookEach takes 
 -- the file to which the records of these answers went
 abbrev pub group_file : {D : Type 0} → LiveState D → List Answer → FileNumbers
 group_file old turns = if makes_checkpoint old.file turns then next_file old.state.machine.saved old.file else old.file
+
+-- how much the events of the records in it looked at
+abbrev pub group_work : {D : Type 0} → LiveState D → List Answer → ℕ
+group_work old turns = if makes_checkpoint old.file turns then 0 else old.work
 
 -- what the files say when the records of these answers are written
 abbrev pub group_content : {D : Type 0} → LiveState D → List Answer → Content
@@ -157,6 +161,7 @@ pub record IsGroup {D : Type 0} (old : LiveState D) (turns : List Answer) (new :
   pub event : new.numbers.event ≡ old.numbers.event + length turns
   pub numbers : new.numbers ≡ numbers_after old.state old.numbers (history_in turns)
   pub file : new.file ≡ file_with (group_file old turns) (bodies_after old.state (history_in turns))
+  pub work : turns ≢ [] → new.work ≡ min (group_work old turns + sum_by answer_work turns) greatest
   pub none : turns ≡ [] → new ≡ old
 
 -- The answers of groups that followed one another are those of the steps of one history, in order, each of its own event and with the state
@@ -188,7 +193,8 @@ IsOfFront whole events rest = (more : List Event) × (events ≡ events_in whole
 pub record IsGroupWritten {D : Type 0} (history : D → List Change) (old new : LiveState D) (turns : List Answer) : Type 0 where
   pub says : new.content ≡ with_records (group_content old turns) (bodies_after old.state (history_in turns))
   pub stored : IsStored history new
-  pub few : turns ≢ [] → old.file.is_put_off ≡ false → length new.content.records ≤ most_records
+  pub few : turns ≢ [] → old.file.is_put_off ≡ false
+      → length new.content.records ≤ most_records new.content.layout (length new.content.snapshot)
   pub short : turns ≢ [] → old.file.is_put_off ≡ false
       → records_len new.content.records ≤ most_bytes (length new.content.snapshot) + longest_record
 

@@ -74,6 +74,7 @@ pub record AddsToFile {D : Type 0} (first now : LiveState D) (events : List Even
   pub few : now.is_broken ≡ false → now.file.records ≤ first.file.records + length events
   pub short : now.is_broken ≡ false → now.file.bytes ≤ first.file.bytes + bytes_after first.state (history_of [] events answers)
   pub behind : now.is_broken ≡ false → now.file.snapshot_len ≡ first.file.snapshot_len
+  pub laid : now.is_broken ≡ false → now.file.layout ≡ first.file.layout
 
 -- Events were handled in groups: these are the answers, and the stage has come so far.
 pub record IsGroupsSoFar {D : Type 0} (honest : D → Type 0) (history : D → List Change) (first now : LiveState D) (events : List Event)

@@ -1,11 +1,12 @@
 -- The numbers by which a stage counts, and which can be spent.
-use Rattle.std.specs.Prelude.{◌≡◌, ◌⊎◌, ℕ, ◌+◌, ◌-◌, ◌^◌, min, max, Bool, true, false, not, ◌&&◌, ◌||◌, List, [], ◌∷◌, length}
-use Rattle.std.specs.Prelude.{Option, Some, None, nat_le, nat_lt, if◌then◌else◌}
+use Rattle.std.specs.Prelude.{◌≡◌, ◌⊎◌, ℕ, ◌+◌, ◌-◌, ◌/◌, ◌^◌, ◌==◌, min, max, Bool, true, false, not, ◌&&◌, ◌||◌, List, [], ◌∷◌}
+use Rattle.std.specs.Prelude.{length, Option, Some, None, nat_le, nat_lt, if◌then◌else◌}
 use Rattle.profile.specs.declared.profile.Profile.{Profile}
 use Rattle.state_codec.specs.declared.op.Op.{Op}
+use Rattle.state_codec.specs.Layout.{written_layout}
 use Rattle.state_codec.specs.SavedState.{SavedState}
 use Rattle.state_codec.specs.Spelling.{body_bytes, saved_bytes}
-use Rattle.play_journal.specs.Content.{Content, last_record}
+use Rattle.play_journal.specs.Content.{Content, last_record, third_layout}
 use Rattle.play_journal.specs.File.{longest_body, records_len}
 use Rattle.play_journal.specs.Pieces.{most_pieces}
 
@@ -14,9 +15,10 @@ pub record Numbers : Type 0 where
   pub event : ℕ
   pub last_record : ℕ
 
--- The generation of the file to which records go, the length of its snapshot, how many records stand behind that, how many bytes they take,
--- and whether a checkpoint is put off, since the disk has no room for it.
+-- The layout and the generation of the file to which records go, the length of its snapshot, how many records stand behind that, how many
+-- bytes they take, and whether a checkpoint is put off, since the disk has no room for it.
 pub record FileNumbers : Type 0 where
+  pub layout : ℕ
   pub generation : ℕ
   pub snapshot_len : ℕ
   pub records : ℕ
@@ -40,7 +42,15 @@ abbrev pub checkpoint_calls : SavedState → ℕ
 checkpoint_calls s = 8 + most_pieces (snapshot_size s)
 
 abbrev pub first_file : SavedState → FileNumbers
-first_file s = record { generation = 1; snapshot_len = snapshot_size s; records = 0; bytes = 0; is_put_off = false }
+first_file s =
+    record {
+      layout = written_layout s.profile;
+      generation = 1;
+      snapshot_len = snapshot_size s;
+      records = 0;
+      bytes = 0;
+      is_put_off = false;
+    }
 
 -- those of a stage that was just opened over files that give this
 abbrev pub numbers_found : Content → Numbers
@@ -49,6 +59,7 @@ numbers_found content = record { event = 0; last_record = last_record content }
 abbrev pub file_found : Content → FileNumbers
 file_found content =
     record {
+      layout = content.layout;
       generation = content.generation;
       snapshot_len = length content.snapshot;
       records = length content.records;
@@ -66,13 +77,19 @@ abbrev pub record_number : ℕ → List Op → Option ℕ
 record_number last [] = None
 record_number last (op ∷ ops) = Some (last + 1)
 
--- where so many records stand behind a snapshot, a checkpoint is due
-abbrev pub most_records : ℕ
-most_records = 4096
+-- Where so many records stand behind a snapshot, a checkpoint is due: 4,096, or in layout 3 as many as the snapshot has KiB, if that is
+-- more.
+abbrev pub most_records : ℕ → ℕ → ℕ
+most_records layout snapshot_len = if layout == third_layout then max 4096 (snapshot_len / 1024) else 4096
 
 -- and where more than so many bytes of records do: 4 MiB, or as many as a longer snapshot has
 abbrev pub most_bytes : ℕ → ℕ
 most_bytes snapshot_len = max 4194304 snapshot_len
+
+-- where the events of the records looked at more than so much, a checkpoint is made too once room is looked for: as much as twenty
+-- requests may
+abbrev pub most_work : ℕ
+most_work = 200000000
 
 -- how many bytes a record takes at most, with its gate and its length
 abbrev pub longest_record : ℕ
@@ -80,7 +97,8 @@ longest_record = 5 + longest_body
 
 -- whether the next turn makes a checkpoint first: one that is put off isn't made
 abbrev pub is_due : FileNumbers → Bool
-is_due file = not file.is_put_off && (nat_le most_records file.records || nat_lt (most_bytes file.snapshot_len) file.bytes)
+is_due file = not file.is_put_off
+    && (nat_le (most_records file.layout file.snapshot_len) file.records || nat_lt (most_bytes file.snapshot_len) file.bytes)
 
 -- a checkpoint that is due is put off
 abbrev pub put_off : FileNumbers → FileNumbers
@@ -88,11 +106,23 @@ put_off file = if is_due file then record file { is_put_off = true } else file
 
 -- those of the file that a checkpoint of this state lays down
 abbrev pub next_file : SavedState → FileNumbers → FileNumbers
-next_file s file = record { generation = file.generation + 1; snapshot_len = snapshot_size s; records = 0; bytes = 0; is_put_off = false }
+next_file s file =
+    record {
+      layout = written_layout s.profile;
+      generation = file.generation + 1;
+      snapshot_len = snapshot_size s;
+      records = 0;
+      bytes = 0;
+      is_put_off = false;
+    }
 
 -- those of the file to which a turn's record goes, before which the state is this
 abbrev pub ready_file : SavedState → FileNumbers → FileNumbers
 ready_file s file = if is_due file then next_file s file else file
+
+-- how much the events of the records in it looked at
+abbrev pub ready_work : FileNumbers → ℕ → ℕ
+ready_work file work = if is_due file then 0 else work
 
 -- how many bytes the record of these ops takes, if there are any: its gate, its length and its body
 abbrev pub record_bytes : Profile → List Op → ℕ

@@ -31,6 +31,7 @@ use Rattle.live_stage.specs.Writing.{file_of}
 abbrev pub file_begun : Begin → FileNumbers
 file_begun begin =
     record {
+      layout = begin.layout;
       generation = 0;
       snapshot_len = begin.snapshot_len;
       records = begin.records;
@@ -47,6 +48,7 @@ begin_of old =
     record {
       event = old.numbers.event;
       last_record = old.numbers.last_record;
+      layout = old.file.layout;
       snapshot_len = old.file.snapshot_len;
       records = old.file.records;
       bytes = old.file.bytes;
@@ -92,7 +94,7 @@ pub record AreStaged (D : Type 0) (begin : Begin) (s : State) (turns : List Answ
 
 -- a file keeps to the bounds behind a turn that made the checkpoint that was due, if one was
 pub record KeepsToBounds (file : FileNumbers) : Type 0 where
-  pub few : file.is_put_off ≡ false → file.records ≤ most_records
+  pub few : file.is_put_off ≡ false → file.records ≤ most_records file.layout file.snapshot_len
   pub short : file.is_put_off ≡ false → file.bytes ≤ most_bytes file.snapshot_len + longest_record
 
 -- Events were taken as long as they might be.

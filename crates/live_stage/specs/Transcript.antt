@@ -106,7 +106,7 @@ SpendsNumbers first earlier was file last (event ∷ events) (answer ∷ answers
 
 -- The records of these answers keep to the bounds of the file that is in use, so no checkpoint is due before any of the events.
 pub record HasRoomFor {D : Type 0} (first : LiveState D) (events : List Event) (answers : List (Result Answer LiveError)) : Type 0 where
-  pub records : first.file.records + length events ≤ most_records
+  pub records : first.file.records + length events ≤ most_records first.file.layout first.file.snapshot_len
   pub bytes : first.file.bytes + bytes_after first.state (history_of [] events answers) ≤ most_bytes first.file.snapshot_len
 
 -- from the first disk fault on, or from the start where the stage was broken, each answer is `Broken`

@@ -1,6 +1,6 @@
 -- How a stage goes on from one call to the next.
 use Rattle.std.specs.Prelude.{◌≡◌, ◌≢◌, ◌⊎◌, ◌↔◌, ◌≤◌, true, false, not, Bool, ℕ, ◌+◌, ◌*◌, ◌==◌, List, [], ◌∷◌, length, Some, Result, Err}
-use Rattle.std.specs.Prelude.{IfOk, OnOk, OnErr, IfErr, MatchBool, if◌then◌else◌}
+use Rattle.std.specs.Prelude.{IfOk, OnOk, OnErr, IfErr, MatchBool, ◌||◌, nat_lt, if◌then◌else◌}
 use Rattle.disk_model.specs.History.{Change}
 use Rattle.disk_model.specs.Later.{HasFailed}
 use Rattle.play_journal.specs.Calls.{SameFaults}
@@ -9,6 +9,7 @@ use Rattle.play_journal.specs.File.{records_len, spelling}
 use Rattle.play_journal.specs.JournalState.{JournalState}
 use Rattle.play_journal.specs.Pair.{AllPairsNow, AllPairsSince}
 use Rattle.profile.specs.declared.profile.Profile.{Profile}
+use Rattle.profile.specs.declared.profile.Profile.TheVariants.{Named, Wide}
 use Rattle.state_codec.specs.declared.op.Op.{Op}
 use Rattle.state_codec.specs.Layout.{written_layout}
 use Rattle.state_codec.specs.SavedState.{SavedState}
@@ -20,12 +21,13 @@ use Rattle.live_stage.specs.Answer.{Answer}
 use Rattle.live_stage.specs.Found.{state_of}
 use Rattle.live_stage.specs.LiveState.{LiveState}
 use Rattle.live_stage.specs.Numbers.{AreSpent, FileNumbers, greatest, is_due, most_records, most_bytes, longest_record, next_file}
-use Rattle.live_stage.specs.Numbers.{ready_file, file_found, numbers_found}
+use Rattle.live_stage.specs.Numbers.{ready_file, ready_work, file_found, most_work, numbers_found}
 
 -- a stage that begins with what was kept, and had no event yet
 pub record IsBegun {D : Type 0} (kept : SavedState) (live : LiveState D) : Type 0 where
   pub state : live.state ≡ start kept
   pub event : live.numbers.event ≡ 0
+  pub work : live.work ≡ 0
   pub usable : live.is_broken ≡ false
 
 -- whatever a crash now leaves of the files gives the content of the stage, in the layout that its profile writes, which stands for its
@@ -67,6 +69,7 @@ pub record IsCheckpointed {D : Type 0} (old new : LiveState D) : Type 0 where
   pub state : new.state ≡ old.state
   pub numbers : new.numbers ≡ old.numbers
   pub file : new.file ≡ next_file old.state.machine.saved old.file
+  pub work : new.work ≡ 0
   pub other_file : new.is_in_b ≡ not old.is_in_b
   pub usable : new.is_broken ≡ false
 
@@ -115,6 +118,7 @@ pub record IsReady {D : Type 0} (old ready : LiveState D) : Type 0 where
   pub state : ready.state ≡ old.state
   pub numbers : ready.numbers ≡ old.numbers
   pub file : ready.file ≡ ready_file old.state.machine.saved old.file
+  pub work : ready.work ≡ ready_work old.file old.work
   pub in_b : ready.is_in_b ≡ writes_to_b old
   pub usable : ready.is_broken ≡ false
   pub nothing_made : is_due old.file ≡ false → ready ≡ old
@@ -154,7 +158,7 @@ pub record MakesNoCall {D : Type 0} (old new : LiveState D) : Type 0 where
 pub record IsWritten {D : Type 0} (history : D → List Change) (old new : LiveState D) (ops : List Op) : Type 0 where
   pub says : new.content ≡ recorded_content new.state.machine.saved.profile (ready_content old) ops
   pub stored : IsStored history new
-  pub few : old.file.is_put_off ≡ false → length new.content.records ≤ most_records
+  pub few : old.file.is_put_off ≡ false → length new.content.records ≤ most_records new.content.layout (length new.content.snapshot)
   pub short : old.file.is_put_off ≡ false
       → records_len new.content.records ≤ most_bytes (length new.content.snapshot) + longest_record
 
@@ -201,6 +205,7 @@ pub record CallsDisksAlone {D : Type 0} (old new : LiveState D) : Type 0 where
   pub state : new.state ≡ old.state
   pub numbers : new.numbers ≡ old.numbers
   pub file : new.file ≡ old.file
+  pub work : new.work ≡ old.work
   pub same_file : new.is_in_b ≡ old.is_in_b
   pub usable : new.is_broken ≡ false
 
@@ -216,18 +221,45 @@ MakesOrNot is_made old new = MatchBool is_made (IsCheckpointed old new) (CallsDi
 abbrev pub taken_up : FileNumbers → FileNumbers
 taken_up file = record file { is_put_off = false }
 
--- Room was looked for: the checkpoint that was due was made, or is put off, so that none is due; where none was, all but the disks is as
--- it was, and none is put off.
+-- Under the wide profile room is given back where a checkpoint is due or put off.
+abbrev pub gives_room : Profile → FileNumbers → ℕ → Bool
+gives_room Named file work = false
+gives_room Wide file work = is_due (taken_up file) || nat_lt most_work work
+
+-- the file in use ends with its closing gate
+abbrev pub HasNoneBehind : {D : Type 0} → (D → List ℕ) → LiveState D → LiveState D → Type 0
+HasNoneBehind content old new = length (content (if new.is_in_b then new.b else new.a)) ≡ length (spelling old.content) + 1
+
+-- It is refused where the stage is broken, and by a disk fault, which breaks it.
+pub record RefusesToGive {D T : Type 0} (old new : LiveState D) (result : Result T LiveError) : Type 0 where
+  pub broken : old.is_broken ≡ true → (result ≡ Err Broken) × (new ≡ old)
+  pub fault : OnErr result (result ≡ Err Broken)
+  pub breaks : result ≡ Err Broken → new.is_broken ≡ true
+  pub not_counted : new.numbers.event ≡ old.numbers.event
+
+-- Room was looked for: the checkpoint that was due was made, or is put off, so that none is due; where none was, and the events of the
+-- records looked at no more than they may, all but the disks is as it was, and none is put off.
 pub record LooksForRoom {D : Type 0} (old new : LiveState D) : Type 0 where
   pub state : new.state ≡ old.state
   pub numbers : new.numbers ≡ old.numbers
   pub file : (new.file ≡ next_file old.state.machine.saved old.file) ⊎ (new.file ≡ record old.file { is_put_off = new.file.is_put_off })
   pub undue : is_due new.file ≡ false
-  pub kept : is_due (taken_up old.file) ≡ false → new.file ≡ taken_up old.file
+  pub work : (new.work ≡ 0) ⊎ (new.work ≡ old.work)
+  pub kept : is_due (taken_up old.file) ≡ false → old.work ≤ most_work → new.file ≡ taken_up old.file
   pub usable : new.is_broken ≡ false
 
--- There is room: no checkpoint is due, or is put off, and the file in use has so many bytes behind its closing gate.
+-- Room could not be looked for: the stage was broken, and is as it was; or the last generation is spent, and the state stays; or a disk
+-- failed, which breaks the stage.
+pub record RefusesToLook {D T : Type 0} (old new : LiveState D) (result : Result T LiveError) : Type 0 where
+  pub broken : old.is_broken ≡ true → (result ≡ Err Broken) × (new ≡ old)
+  pub nothing_else : IfErr result (λ e. (e ≡ NumbersSpent) ⊎ ((e ≡ Broken) × (new.is_broken ≡ true)))
+  pub stays : OnErr result (result ≢ Err Broken → (new.state ≡ old.state) × (new.is_broken ≡ false))
+  pub not_counted : new.numbers.event ≡ old.numbers.event
+
+-- There is room: no checkpoint is due, or is put off, the events of the records looked at no more than they may, and the file in use has
+-- so many bytes behind its closing gate.
 pub record HasRoom {D : Type 0} (content : D → List ℕ) (live : LiveState D) : Type 0 where
   pub made : live.file.is_put_off ≡ false
   pub undue : is_due live.file ≡ false
+  pub light : live.work ≤ most_work
   pub behind : HasBehind content room_kept live

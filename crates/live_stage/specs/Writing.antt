@@ -47,6 +47,7 @@ pub record TakesRecord {D : Type 0} (journal : JournalState D) (size : ℕ) : Ty
 abbrev pub file_of : {D : Type 0} → JournalState D → FileNumbers
 file_of journal =
     record {
+      layout = journal.layout;
       generation = journal.generation;
       snapshot_len = journal.snapshot_len;
       records = journal.count;

@@ -34,7 +34,7 @@ pub fn groups_are_one_history<D: Disk>()
         → begun.state ≡ between.state → begun.numbers ≡ between.numbers → IsGroup begun more new → IsOneHistory old (turns ++ more) new }
 {}
 
-/// The events of a group look at twice as much as one request may, at most.
+/// The events of a group count as looking at twice as much as the wide profile lets one request look at, at most.
 pub fn group_looks_at_most_twice<D: Disk>()
     ensures { (old : LiveState D) (events : List Event) (turns : List Answer) (is_refused : Bool) (rest : List Event)
         → EndsThere old events turns is_refused rest → sum_by answer_looks turns ≤ 2 * max_looks }

@@ -52,6 +52,8 @@ pub struct Live<D: Disk> {
     group: Group,
     event: u64,
     migrated: bool,
+    // How much the events of the records behind the snapshot looked at.
+    work: u64,
     // A checkpoint is due for which the disk has no room.
     put_off: bool,
 }
@@ -74,6 +76,7 @@ impl<D: Disk> Model for Live<D> {
         last_record = min (v.journal.base + v.journal.count) (2 ^ 64 - 1);
       };
       file = record (file_of v.journal) { is_put_off = v.put_off };
+      work = v.work;
       content = v.journal.content;
       is_in_b = v.journal.is_in_b;
       is_broken = v.journal.is_spent;
@@ -145,6 +148,7 @@ impl<D: Disk> Live<D> {
                 group,
                 event: 0,
                 migrated: false,
+                work: 0,
                 put_off: false,
             }),
             Err(refused) => Err(refused_start(refused)),
@@ -204,8 +208,9 @@ impl<D: Disk> Live<D> {
     }
 
     /// Handles one event. If it changes what is saved, that is one record, and it is on the disk when the answer is given
-    /// out; any other event makes no call of a disk. Where 4,096 or more records stand behind the snapshot, or more bytes of them than
-    /// 4 MiB and than the snapshot has, a checkpoint is made first, whatever the event; it takes no memory.
+    /// out; any other event makes no call of a disk. Where 4,096 or more records stand behind the snapshot, in layout 3 at least as many as
+    /// it has KiB, or more bytes of them than 4 MiB and than the snapshot has, a checkpoint is made first, whatever the event; it takes no
+    /// memory.
     ///
     /// It refuses in the order `Broken` (from before), `NumbersSpent`, `NoMemory`, `Broken` (by a disk fault now). After the
     /// last the event may be kept or not: open the files again. A checkpoint that was made stands after `NoMemory`.
@@ -282,6 +287,7 @@ impl<D: Disk> Live<D> {
             return Err(LiveError::NumbersSpent);
         }
         write_snapshot(&mut self.journal, self.core.as_saved())?;
+        self.work = 0;
         self.put_off = false;
         Ok(())
     }
@@ -291,6 +297,7 @@ impl<D: Disk> Live<D> {
         ensures { result ≡ is_due self.now.file }
     {
         is_due_at(
+            self.journal.layout(),
             self.journal.records_since_checkpoint(),
             self.journal.bytes_since_checkpoint(),
             self.journal.snapshot_len(),
@@ -347,7 +354,10 @@ impl<D: Disk> Live<D> {
         let profile = self.core.as_saved().profile();
         let number = record_ops(&mut self.journal, &mut self.room, profile, &outcome.ops)?;
         self.event += 1;
-        Ok(Turn::new(outcome, self.event, number, asked, before))
+        let turn = Turn::new(outcome, self.event, number, asked, before);
+        let work = self.work.saturating_add(turn.added_work());
+        self.work = work;
+        Ok(turn)
     }
 
     /// How many events there were since the stage was made or opened.
@@ -405,6 +415,7 @@ impl<D: Disk> Live<D> {
             group: _,
             event: _,
             migrated: _,
+            work: _,
             put_off: _,
         } = self;
         journal.into_disks()

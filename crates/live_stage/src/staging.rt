@@ -33,6 +33,7 @@ const MOST_ANSWER_BYTES: u64 = 1_048_576;
 pub(crate) struct Begin {
     pub(crate) event: u64,
     pub(crate) last_record: u64,
+    pub(crate) layout: u32,
     pub(crate) snapshot_len: u64,
     pub(crate) records: u64,
     pub(crate) bytes: u64,
@@ -157,7 +158,13 @@ fn is_due_behind(group: &Group, begin: Begin) -> bool
 {
     let records = begin.records.saturating_add(group.records());
     let record_bytes = begin.bytes.saturating_add(group.bytes());
-    is_due_at(records, record_bytes, begin.snapshot_len, begin.is_put_off)
+    is_due_at(
+        begin.layout,
+        records,
+        record_bytes,
+        begin.snapshot_len,
+        begin.is_put_off,
+    )
 }
 
 /// Steps events in memory, in order, and puts their records into the group, as long as another may follow. It answers whether the one

@@ -62,7 +62,7 @@ impl<D> Model for Turn<D> {
 impl<D> Turn<D> {
     ghost use Rattle.std.specs.Prelude.{◌≡◌};
     ghost use Rattle.daemon_core.specs.Step.{step};
-    ghost use Rattle.live_stage.specs.Answer.{IsOfItsEvent};
+    ghost use Rattle.live_stage.specs.Answer.{IsOfItsEvent, answer_work};
     ghost use Rattle.live_stage.specs.Group.{answer_looks};
 
     pub(crate) fn new(
@@ -155,6 +155,16 @@ impl<D> Turn<D> {
         ensures { result ≡ answer_looks self.now }
     {
         self.looks
+    }
+
+    // How much the event adds to the work of the records behind the snapshot: what it looked at, if it made one.
+    pub(crate) fn added_work(&self) -> u64
+        ensures { result ≡ answer_work self.now }
+    {
+        match self.receipt.number {
+            Some(_) => self.looks,
+            None => 0,
+        }
     }
 
     /// The outputs, to be handed over.

@@ -1,20 +1,23 @@
 -- What a command that reads does: it writes lines behind the answer and keeps them, or is refused, or finds no memory.
-use Rattle.std.proofs.Common.{◌≡◌, ℕ, ◌+◌, ◌≤◌, List, [], ◌++◌, length, take, Result, Ok, Err, refl, sym, ap, subst, ◌∙◌, arith}
+use Rattle.std.proofs.Common.{◌≡◌, ℕ, ◌+◌, ◌<◌, ◌≤◌, Bool, true, false, List, [], ◌++◌, length, take, Result, Ok, Err, refl, sym, ap, subst, ◌∙◌, arith}
 use Rattle.std.proofs.lemmas.Bool.{false≢true}
-use Rattle.std.proofs.lemmas.List.{append-nil, take-append-le}
+use Rattle.std.proofs.lemmas.List.{append-nil, take-append-le, take_all}
 use Rattle.std.proofs.Math.Seq.{take-length}
 use Rattle.std.specs.Global.{Vec}
+use Rattle.std.specs.Prelude.{MatchBool}
 use Rattle.std.specs.Vec.{vec_capacity, vec_len}
 use Rattle.command_text.specs.Answer.{Adds}
 use Rattle.command_text.specs.declared.refusal.CommandRefusal.{CommandRefusal}
 use Rattle.no_memory.specs.declared.NoMemory.{NoMemory as WantOfMemory}
 use Rattle.state_codec.specs.declared.op.Op.{Op}
+use Rattle.machine_core.specs.Front.{front_of, longest_answer}
 use Rattle.machine_core.specs.Meaning.{Meant, stands, says}
 use Rattle.machine_core.specs.State.{MachineState}
 use Rattle.machine_core.specs.Work.{AddsNothing, CanKeep, HasRoom, Keeps, Performs, command_room, keep_count}
 use Rattle.machine_core.specs.declared.work.Failure.{Failure}
 use Rattle.machine_core.specs.declared.work.Failure.TheVariants.{Refused, NoMemory}
 use Rattle.machine_core.specs.declared.work.Work.{Work}
+use Rattle.machine_core.proofs.Fronts.{nothing_told}
 
 -- a machine and a request's work that nothing has changed
 pub nothing_added : (w : Work) → AddsNothing w w
@@ -31,7 +34,7 @@ says_nothing m w x room = record {
   meaning = stands [] m;
   means = refl;
   stands = refl;
-  text = sym (append-nil w.text.items);
+  text = ap front_of (sym (append-nil w.text.items));
   ops = record { ops = sym (append-nil w.ops.items); size = omega arith; fits = w.fits };
   room = room;
   keeps = λ can. can;
@@ -58,7 +61,7 @@ module _ (lines : List ℕ) (m : MachineState) (mark : ℕ) (w x y : Work) (at :
     meaning = stands lines m;
     means = refl;
     stands = refl;
-    text = k.kept.1.0 ∙ a.all;
+    text = ap front_of (k.kept.1.0 ∙ a.all);
     ops = record { ops = k.ops ∙ same_items ∙ sym (append-nil w.ops.items); size = omega (arith, k.size, size); fits = y.fits };
     room = k.kept.1.1;
     keeps = λ can. k.keeps (kept_room x w ops can);
@@ -101,6 +104,39 @@ reads meant lines m n mark w x y written result means same at ops size a k =
     subst (λ (k : Meant). Performs k m n w y result) (sym means)
     (subst (λ (k : MachineState). Performs (says lines m) m k w y result) (sym same)
     (says_kept lines m mark w x y at ops size written result a k))
+
+-- behind an answer that is too long a command's lines aren't written
+says_none : (lines : List ℕ) (m : MachineState) (mark : ℕ) (w y : Work) (result : Result (Unit {0}) Failure) → mark ≡ vec_len w.text
+    → longest_answer < vec_len w.text → Keeps mark (Ok tt) w y result → Performs (says lines m) m m w y result
+says_none lines m mark w y (Ok u) at long k = record {
+  meaning = stands lines m;
+  means = refl;
+  stands = refl;
+  text = ap front_of k.kept.1.0 ∙ nothing_told w.text.items lines (omega (arith, long, w.text.ok.0));
+  ops = record { ops = k.ops ∙ sym (append-nil w.ops.items); size = omega (arith, k.size); fits = y.fits };
+  room = k.kept.1.1;
+  keeps = k.keeps;
+}
+says_none lines m mark w y (Err NoMemory) at long k = record {
+  state = refl;
+  nothing = record {
+    text = k.cut ∙ take_all mark w.text.items (omega (arith, at, w.text.ok.0));
+    room = k.room;
+    ops = k.ops;
+    size = k.size;
+  };
+  refusal = tt;
+}
+says_none lines m mark w y (Err (Refused refusal)) at long k = absurd (cc k.memory)
+
+pub passes : (meant : Meant) (lines : List ℕ) (m n : MachineState) (w y : Work) (long : Bool) (result : Result (Unit {0}) Failure)
+    → meant ≡ says lines m → n ≡ m → long ≡ true → MatchBool long (longest_answer < vec_len w.text) (vec_len w.text ≤ longest_answer)
+    → Keeps (vec_len w.text) (Ok tt) w y result → Performs meant m n w y result
+passes meant lines m n w y true result means same is long k =
+    subst (λ (k : Meant). Performs k m n w y result) (sym means)
+    (subst (λ (k : MachineState). Performs (says lines m) m k w y result) (sym same)
+    (says_none lines m (vec_len w.text) w y result refl long k))
+passes meant lines m n w y false result means same is long k = absurd (false≢true is)
 
 pub also : (meant other : Meant) (m n : MachineState) (w y : Work) (result : Result (Unit {0}) Failure) → meant ≡ other
     → Performs other m n w y result → Performs meant m n w y result

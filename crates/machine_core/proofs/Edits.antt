@@ -1,11 +1,10 @@
 -- From the parts of an edit to what it means.
-use Rattle.std.proofs.Common.{◌≡◌, ℕ, ◌+◌, ◌≤◌, Bool, true, false, not, [], length, nat_le, Some, None}
+use Rattle.std.proofs.Common.{◌≡◌, ℕ, ◌+◌, Bool, true, false, not, [], length, nat_le, Some, None}
 use Rattle.std.proofs.lemmas.Bool.Decides.{nat_tests}
 use Rattle.command_text.specs.declared.refusal.CommandRefusal.{CommandRefusal}
 use Rattle.command_text.specs.declared.refusal.CommandRefusal.TheVariants.{RequestTooLarge}
 use Rattle.std.proofs.Common.{refl, sym, ◌∙◌, ap, subst, arith}
-use Rattle.std.proofs.lemmas.List.{append-nil}
-use Rattle.std.specs.Prelude.{Option, Result, Ok, Err, OnOk, OnErr, IfErr, if◌then◌else◌}
+use Rattle.std.specs.Prelude.{Option, Result, Ok, Err, OnOk, IfErr, if◌then◌else◌}
 use Rattle.std.specs.Result.{IsErrAnd, is_err}
 use Rattle.profile.specs.declared.profile.Profile.{Profile}
 use Rattle.state_codec.specs.Applied.{refusal_of, changes_nothing, after, applied, unless_refused as unless_fit}
@@ -15,11 +14,11 @@ use Rattle.state_codec.specs.Spelling.{ops_bytes}
 use Rattle.state_codec.specs.declared.op.Op.{Op}
 use Rattle.state_codec.specs.declared.refusal.OpRefusal.{OpRefusal}
 use Rattle.machine_core.specs.Followed.{followed}
-use Rattle.machine_core.specs.Meaning.{Meaning, Meant, edits, edited, made, stands, says, unless_refused}
+use Rattle.machine_core.specs.Meaning.{Meaning, Meant, edits, edited, made, stands, unless_refused}
 use Rattle.machine_core.specs.Size.{max_request_bytes, within}
 use Rattle.machine_core.specs.State.{MachineState}
 use Rattle.machine_core.specs.Told.{op_told, told}
-use Rattle.machine_core.specs.Work.{AddsNothing, HasRoom, IsRefusalOf, IsTooMuch, Went, Performs, command_room}
+use Rattle.machine_core.specs.Work.{AddsNothing, IsRefusalOf, IsTooMuch, Performs}
 use Rattle.machine_core.specs.declared.work.Failure.{Failure}
 use Rattle.machine_core.specs.declared.work.Failure.TheVariants.{Refused, NoMemory}
 use Rattle.machine_core.specs.declared.work.Work.{Work}
@@ -58,11 +57,6 @@ refused_failed meant m work failure (Err e) refused is = record {
 pub was_ok : {E : Type 0} → (r : Result (Unit {0}) E) (P : Type 0) → is_err r ≡ false → OnOk r P → P
 was_ok (Ok x) P is h = h
 was_ok (Err e) P is h = absurd (cc)
-
--- and of one that was
-pub was_err : {E : Type 0} → (r : Result (Unit {0}) E) (P : Type 0) → is_err r ≡ true → OnErr r P → P
-was_err (Ok x) P is h = absurd (cc)
-was_err (Err e) P is h = h
 
 -- what an op that isn't refused means, where it changes something or not
 abbrev pub meant_if : Op → MachineState → Bool → Meant

@@ -7,7 +7,7 @@ pub mod Sorted
 pub mod EntryOrder
 pub mod Told
 pub mod Values
-pub mod Distinct
 pub mod AllValues
 pub mod Groups
 pub mod GroupMaps
+pub mod RuledOut

@@ -17,6 +17,7 @@ use Rattle.player_core.specs.declared.settings.PlaySettings.{PlaySettings}
 use Rattle.profile.specs.declared.profile.Profile.TheVariants.{Named, Wide}
 use Rattle.song_db.specs.declared.change.RowChange.{RowChange}
 use Rattle.state_codec.specs.Applied.{after_all}
+use Rattle.machine_core.specs.Front.{front_of}
 use Rattle.machine_core.specs.Happening.{Happening, if_room, nothing_happens}
 use Rattle.machine_core.specs.Keeping.{goes_on, if_kept, keep_ops, keeps_place, kept, kept_event, place_ops, time_ops, times, keeps}
 use Rattle.machine_core.specs.Keeping.{when_kept, with_ops}
@@ -24,7 +25,7 @@ use Rattle.machine_core.specs.Meaning.{Meaning, Meant}
 use Rattle.machine_core.specs.Reports.{happens, when_broken, when_ended}
 use Rattle.machine_core.specs.Room.{SavesNothing, full, saves_nothing, told_of, under_room, without_room}
 use Rattle.machine_core.specs.Size.{max_request_bytes, within}
-use Rattle.machine_core.specs.Scanning.{finds, is_running, kept_changes, telling, when_found}
+use Rattle.machine_core.specs.Scanning.{finds, is_running, kept_changes, telling, when_found, spared}
 use Rattle.machine_core.specs.State.{MachineState, keeping, lacks_room, settings_of}
 use Rattle.machine_core.specs.Steps.{stepping, steps, unsaved, without_consume}
 use Rattle.machine_core.specs.Work.{AddsNothing, Performs, command_room}
@@ -96,7 +97,7 @@ performs_full some meant m t work filled done emptied (Ok x) fills empties went 
       meaning = went.meaning;
       means = ap without_room went.means ∙ kept_without went.meaning went.meaning.ops none;
       stands = went.stands;
-      text = ap (λ v. v.items) empties.1.0 ∙ went.text ∙ ap (λ v. v.items ++ went.meaning.text) fills.1.0;
+      text = ap (λ v. front_of v.items) empties.1.0 ∙ went.text ∙ ap (λ v. front_of (v.items ++ went.meaning.text)) fills.1.0;
       ops = record {
         ops = ap (λ v. v.items) empties.1.1 ∙ added.ops ∙ ap (λ v. v.items ++ went.meaning.ops) fills.1.1;
         size = omega (arith, empties.0, ap (λ (l : List Op). length (ops_bytes m.saved.profile l)) none);
@@ -209,7 +210,7 @@ found_saves_nothing job changes m lacks =
     (kept_nothing_saved m (nothing_happens m) lacks refl refl)
   where
     rows : Happening
-    rows = finds (telling m.saved.songs (kept_changes m.saved.profile changes)) m
+    rows = finds (telling m.saved.songs (kept_changes m.saved.profile (spared m changes))) m
 
     of : (b : Bool) → cond b (if_room m rows) (nothing_happens m) ≡ nothing_happens m
     of true = ap (λ (b : Bool). cond b (nothing_happens m) rows) lacks

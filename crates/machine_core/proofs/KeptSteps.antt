@@ -20,7 +20,7 @@ use Rattle.profile.specs.declared.profile.Profile.TheVariants.{Named, Wide}
 use Rattle.state_codec.specs.Applied.{after, after_all, all_applied, changes_nothing}
 use Rattle.state_codec.specs.SavedState.{SavedState, IsSavedState}
 use Rattle.state_codec.specs.Sealed.{checksum_len}
-use Rattle.state_codec.specs.Spelling.{body_bytes, ops_bytes}
+use Rattle.state_codec.specs.Spelling.{ops_bytes}
 use Rattle.state_codec.specs.SpellingOps.{op_bytes}
 use Rattle.state_codec.specs.declared.op.Op.{Op}
 use Rattle.state_codec.specs.declared.op.Op.TheVariants.{Place}
@@ -31,7 +31,6 @@ use Rattle.machine_core.specs.Happening.{HasHappened, Happening, nothing_happens
 use Rattle.machine_core.specs.Keeping.{goes_on_since, if_kept, keep_ops_since, keeps_place, leave_ops, place_ops, put_op}
 use Rattle.machine_core.specs.Keeping.{resumed_from, resumes, round_ops, telling_ops, telling_time, time_ops, when_kept, when_resumed}
 use Rattle.machine_core.specs.Keeping.{with_ops}
-use Rattle.machine_core.specs.Reports.{player_happens}
 use Rattle.machine_core.specs.Size.{longest_keep, longest_place, max_request_bytes}
 use Rattle.machine_core.specs.State.{MachineState}
 use Rattle.machine_core.specs.Steps.{named_length}
@@ -69,10 +68,6 @@ told_none op s is = ap (λ (b : Bool). cond b [] (Place op ∷ [])) is
 
 pub told_one : (op : PlaceOp) (s : SavedState) → changes_nothing (Place op) s ≡ false → telling_ops (op ∷ []) s ≡ Place op ∷ []
 told_one op s is = ap (λ (b : Bool). cond b [] (Place op ∷ [])) is
-
--- its length is the same under both profiles
-pub op_len : (profile any : Profile) (op : PlaceOp) → length (op_bytes profile (Place op)) ≡ length (ops_bytes any (Place op ∷ []))
-op_len profile any op = omega (arith, length-append (op_bytes any (Place op)) [])
 
 -- ---- one after the other
 
@@ -155,16 +150,9 @@ put_bytes profile x y z all one two three told first second third =
 
 -- ---- where what plays goes on nothing is kept
 
-pub since_none : (before : Before) (n : MachineState) → goes_on_since before n ≡ true → keep_ops_since before n ≡ []
-since_none before n goes = ap (λ (b : Bool). cond b [] (place_ops before.current n.player n.saved n.saved.place)) goes
-
 pub since_some : (before : Before) (n : MachineState) → goes_on_since before n ≡ false
     → keep_ops_since before n ≡ place_ops before.current n.player n.saved n.saved.place
 since_some before n goes = ap (λ (b : Bool). cond b [] (place_ops before.current n.player n.saved n.saved.place)) goes
-
-pub kept_of_none : (profile : Profile) → if_kept profile [] ≡ []
-kept_of_none Named = refl
-kept_of_none Wide = refl
 
 -- ---- the room and the bytes of what is kept
 
@@ -198,14 +186,6 @@ some_time made all ops m same some =
     ap (λ (b : Bool). cond b (telling_time m) []) (sym (ap (list_any is_of_lists) (made_behind made all ops same)) ∙ some)
 
 -- ---- the events
-
-pub here_none : (ticket : ℕ) (m : MachineState) → counts m.player.state m.player.ticket ticket ≡ false
-    → when_kept ticket m ≡ nothing_happens m
-here_none ticket m late = ap (λ (b : Bool). cond b (keeps_place m) (nothing_happens m)) late
-
-pub here_some : (ticket : ℕ) (m : MachineState) → counts m.player.state m.player.ticket ticket ≡ true
-    → when_kept ticket m ≡ keeps_place m
-here_some ticket m counted = ap (λ (b : Bool). cond b (keeps_place m) (nothing_happens m)) counted
 
 sum_short : (profile : Profile) → checksum_len profile ≤ 4
 sum_short Named = omega arith

@@ -18,8 +18,9 @@ use Rattle.state_codec.specs.Spelling.{ops_bytes}
 use Rattle.state_codec.specs.SpellingOps.{op_bytes}
 use Rattle.state_codec.specs.declared.op.Op.{Op}
 use Rattle.machine_core.specs.Before.{before_of}
+use Rattle.machine_core.specs.Front.{SameFront, front_of}
 use Rattle.machine_core.specs.Keeping.{if_kept, keep_ops, keep_ops_since, keeps, kept, time_ops, times, with_ops}
-use Rattle.machine_core.specs.Looks.{max_looks, weighed}
+use Rattle.machine_core.specs.Looks.{may_look, weighed}
 use Rattle.machine_core.specs.Meaning.{Meaning, Meant}
 use Rattle.machine_core.specs.Size.{longest_keep, max_request_bytes, room_by, within, within_room}
 use Rattle.machine_core.specs.State.{keeping, lacks_room, MachineState}
@@ -153,8 +154,8 @@ module _ (meant : Meant) (m n : MachineState) (w aside made back : Work) (profil
       meaning = went.meaning;
       means = went.means;
       stands = went.stands;
-      text = ap (λ (v : Vec ℕ). v.items) back_text ∙ went.text
-          ∙ ap (λ (v : Vec ℕ). v.items ++ went.meaning.text) aside_text;
+      text = ap (λ (v : Vec ℕ). front_of v.items) back_text ∙ went.text
+          ∙ ap (λ (v : Vec ℕ). front_of (v.items ++ went.meaning.text)) aside_text;
       ops = record {
         ops = ap (λ (v : Vec Op). v.items) back_ops ∙ went.ops.ops ∙ ap (λ (v : Vec Op). v.items ++ went.meaning.ops) aside_ops;
         size = omega (arith, size_under, back_under, went.ops.size);
@@ -200,14 +201,14 @@ went_within Wide size x fits =
 -- the command did what it means, and what plays then is kept, but not yet the time of what it changed of playlists
 pub record WentPlaced (m : MachineState) (x : Meaning) (after : MachineState) (work done : Work) : Type 0 where
   pub stands : after ≡ (keeps m x).after
-  pub text : done.text.items ≡ work.text.items ++ x.text
+  pub text : SameFront done.text.items (work.text.items ++ x.text)
   pub ops : AddsOps (keeps m x).ops (length (ops_bytes m.saved.profile (keeps m x).ops)) work done
   pub room : HasRoom command_room done
 
 -- and that time too
 pub record WentTimed (m : MachineState) (x : Meaning) (after : MachineState) (work done : Work) : Type 0 where
   pub stands : after ≡ (times m (keeps m x)).after
-  pub text : done.text.items ≡ work.text.items ++ x.text
+  pub text : SameFront done.text.items (work.text.items ++ x.text)
   pub ops : AddsOps (times m (keeps m x)).ops (length (ops_bytes m.saved.profile (times m (keeps m x)).ops)) work done
   pub room : HasRoom command_room done
 
@@ -243,7 +244,7 @@ pub went_kept : (meant : Meant) (m n k : MachineState) (w d e : Work) (profile :
     → e.text ≡ d.text → WentPlaced m went.meaning k w e
 went_kept meant m n k w d e profile before went under is stands gains text = record {
   stands = stands ∙ (λ i. with_ops (kept_so i) (went.stands i));
-  text = ap (λ (v : Vec ℕ). v.items) text ∙ went.text;
+  text = ap (λ (v : Vec ℕ). front_of v.items) text ∙ went.text;
   ops = record {
     ops = gains.ops ∙ (λ i. went.ops.ops i ++ kept_so i) ∙ append_assoc w.ops.items x.ops (keep_ops m x.after);
     size = omega (arith, gains.size, went.ops.size, bytes, few);
@@ -289,7 +290,7 @@ pub went_timed : (m : MachineState) (x : Meaning) (k l : MachineState) (w e f : 
     → f.text ≡ e.text → WentTimed m x l w f
 went_timed m x k l w e f profile made went under count stands gains text = record {
   stands = stands ∙ (λ i. with_ops (so i) (went.stands i));
-  text = ap (λ (v : Vec ℕ). v.items) text ∙ went.text;
+  text = ap (λ (v : Vec ℕ). front_of v.items) text ∙ went.text;
   ops = record {
     ops = gains.ops ∙ (λ i. went.ops.ops i ++ so i) ∙ append_assoc w.ops.items (keeps m x).ops more;
     size = omega (arith, gains.size, went.ops.size, few, bytes);
@@ -334,14 +335,13 @@ went_all meant m l x w f means timed = record {
 
 -- ---- the limit on what is looked at
 
-pub weighed_is : (before looks : ℕ) (meant : Meant) → before + looks ≤ max_looks → weighed before looks meant ≡ meant
-weighed_is before looks meant few = ap (λ (b : Bool). cond b meant too_large) (le-leb (before + looks) max_looks few)
+pub weighed_is : (profile : Profile) (before looks : ℕ) (meant : Meant) → may_look profile before looks ≡ true
+    → weighed profile before looks meant ≡ meant
+weighed_is profile before looks meant may = ap (λ (b : Bool). cond b meant too_large) may
 
-weighed_too_much : (before looks : ℕ) (meant : Meant) → max_looks < before + looks → weighed before looks meant ≡ too_large
-weighed_too_much before looks meant more = ap (λ (b : Bool). cond b meant too_large) none
-  where
-    none : nat_le (before + looks) max_looks ≡ false
-    none = lt-leb (before + looks) max_looks more
+weighed_too_much : (profile : Profile) (before looks : ℕ) (meant : Meant) → may_look profile before looks ≡ false
+    → weighed profile before looks meant ≡ too_large
+weighed_too_much profile before looks meant may = ap (λ (b : Bool). cond b meant too_large) may
 
 refused_anyway : (profile : Profile) (size : ℕ) → within_room profile size too_large ≡ Err RequestTooLarge
 refused_anyway Named size = refl
@@ -352,16 +352,23 @@ refused_anyway Wide size = of (nat_le (size + longest_keep) max_request_bytes)
     of false = refl
 
 -- so much isn't looked at
-pub looks_refused : (before looks : ℕ) (meant : Meant) (m : MachineState) (w : Work) (failure : Failure) → max_looks < before + looks
-    → failure ≡ Refused RequestTooLarge → FailedKept (weighed before looks meant) m m w w failure
-looks_refused before looks meant m w failure more is = record {
+looks_fail : (profile : Profile) (before looks : ℕ) (meant : Meant) (m : MachineState) (w : Work) (failure : Failure)
+    → may_look profile before looks ≡ false → failure ≡ Refused RequestTooLarge → FailedKept (weighed profile before looks meant) m m w w failure
+looks_fail profile before looks meant m w failure may is = record {
   state = refl;
   nothing = record { text = refl; room = omega arith; ops = refl; size = refl };
-  refusal = subst (IsKeptRefusalOf m.saved.profile (weighed before looks meant) w.size) (sym is)
-      (ap (within_room m.saved.profile w.size) (weighed_too_much before looks meant more) ∙ refused_anyway m.saved.profile w.size);
+  refusal = subst (IsKeptRefusalOf m.saved.profile (weighed profile before looks meant) w.size) (sym is)
+      (ap (within_room m.saved.profile w.size) (weighed_too_much profile before looks meant may) ∙ refused_anyway m.saved.profile w.size);
 }
 
-pub looks_within : {T : Type 0} (before looks : ℕ) (meant : Meant) (m k : MachineState) (w e : Work) (r : Result T Failure)
-    → before + looks ≤ max_looks → PerformsKept meant m k w e r → PerformsKept (weighed before looks meant) m k w e r
-looks_within before looks meant m k w e r few performs =
-    subst (λ (t : Meant). PerformsKept t m k w e r) (sym (weighed_is before looks meant few)) performs
+pub looks_refused : {T : Type 0} (profile : Profile) (before looks : ℕ) (meant : Meant) (m : MachineState) (w : Work) (r : Result T Failure)
+    (refusal : CommandRefusal) → may_look profile before looks ≡ false → refusal ≡ RequestTooLarge → IsErrAnd r (λ e. e ≡ Refused refusal)
+    → PerformsKept (weighed profile before looks meant) m m w w r
+looks_refused profile before looks meant m w (Ok x) refusal may so is = absurd is
+looks_refused profile before looks meant m w (Err e) refusal may so is =
+    looks_fail profile before looks meant m w e may (is ∙ ap (λ (it : CommandRefusal). Refused it) so)
+
+pub looks_within : {T : Type 0} (profile : Profile) (before looks : ℕ) (meant : Meant) (m k : MachineState) (w e : Work) (r : Result T Failure)
+    → may_look profile before looks ≡ true → PerformsKept meant m k w e r → PerformsKept (weighed profile before looks meant) m k w e r
+looks_within profile before looks meant m k w e r may performs =
+    subst (λ (t : Meant). PerformsKept t m k w e r) (sym (weighed_is profile before looks meant may)) performs

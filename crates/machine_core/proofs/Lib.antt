@@ -17,6 +17,7 @@ pub mod Replacing
 pub mod ListMoves
 pub mod Shuffling
 pub mod EditCommands
+pub mod Fronts
 pub mod Answering
 pub mod Queue
 pub mod BadNames

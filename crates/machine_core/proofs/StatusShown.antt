@@ -5,7 +5,7 @@ use Rattle.std.specs.Option.{option_map, option_copied}
 use Rattle.command_text.specs.Answer.{pair, number_pair}
 use Rattle.command_text.specs.AnswerSetup.{setup_status}
 use Rattle.command_text.specs.AnswerStatus.{setting_lines, state_text, current_lines, next_lines}
-use Rattle.command_text.specs.AnswerStatus.{played_lines, playing_lines, job_lines, error_lines}
+use Rattle.command_text.specs.AnswerStatus.{played_lines, playing_lines, job_lines, told_errors}
 use Rattle.command_text.specs.AnswerStatus.{status_lines}
 use Rattle.command_text.specs.declared.answer.status.CurrentSong.{CurrentSong}
 use Rattle.command_text.specs.declared.answer.status.StatusLines.{StatusLines}
@@ -31,7 +31,8 @@ lent_error None = refl
 lent_error (Some failure) = refl
 
 module _ (s t : StatusLines) (volume : s.volume ≡ t.volume) (options : s.options ≡ t.options) (version : s.version ≡ t.version)
-    (length : s.length ≡ t.length) (state : s.state ≡ t.state) (next : s.next ≡ t.next) (job : s.job ≡ t.job) where
+    (length : s.length ≡ t.length) (state : s.state ≡ t.state) (next : s.next ≡ t.next) (job : s.job ≡ t.job)
+    (unread : s.is_unread ≡ t.is_unread) where
   pub same_status : current_lines s.current ≡ current_lines t.current → played_lines s.current ≡ played_lines t.current
       → option_copied s.error ≡ option_copied t.error → status_lines s ≡ status_lines t
   same_status current played error =
@@ -46,7 +47,7 @@ module _ (s t : StatusLines) (volume : s.volume ≡ t.volume) (options : s.optio
       ∷ next_lines (next i)
       ∷ playing i
       ∷ job_lines (job i)
-      ∷ error_lines (error i)
+      ∷ told_errors (error i) (unread i)
       ∷ [])
 
 pub status_means : (m : MachineState) → settings_meaning Status m ≡ says (status_lines (status_of m) ++ setup_status m.saved.profile) m

@@ -12,6 +12,7 @@ use Rattle.player_core.specs.declared.settings.PlaySettings.{PlaySettings}
 use Rattle.profile.specs.declared.profile.Profile.{Profile}
 use Rattle.state_codec.specs.Spelling.{ops_bytes}
 use Rattle.std.specs.Vec.{vec_len, vec_capacity}
+use Rattle.machine_core.specs.Front.{front_of}
 use Rattle.machine_core.specs.Steps.{step_ops, steps, moves}
 use Rattle.machine_core.specs.State.{MachineState}
 use Rattle.machine_core.specs.Work.{AddsNothing, AddsOps, Admits, CanKeep, HasRoom, Went, command_room}
@@ -29,7 +30,7 @@ made_went (Ok made) m n w a d changes answer is nothing same ops text can room =
   meaning = steps made m;
   means = refl;
   stands = is.1;
-  text = ap (λ t. t.items) (text ∙ same) ∙ sym (append-nil w.text.items);
+  text = ap front_of (ap (λ t. t.items) (text ∙ same) ∙ sym (append-nil w.text.items));
   ops = record {
     ops = ops.ops ∙ (λ i. nothing.ops i ++ step_ops (is.0 i));
     size = ops.size ∙ (λ i. nothing.size i + length (ops_bytes m.saved.profile (step_ops (is.0 i))));

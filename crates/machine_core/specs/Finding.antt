@@ -1,6 +1,6 @@
 -- The commands that find songs by a filter.
 use Rattle.std.specs.Prelude.{◌≡◌, ℕ, ◌≤◌, suc, List, [], ◌∷◌, ◌++◌, length, take, drop, filter, flat_map, Option, Some, None}
-use Rattle.std.specs.Prelude.{Result, OnOk, OnErr, vec_capacity, if◌then◌else◌}
+use Rattle.std.specs.Prelude.{Result, OnOk, vec_capacity, if◌then◌else◌}
 use Rattle.std.specs.Global.{Vec}
 use Rattle.std.specs.List.{filter_map, list_any}
 use Rattle.std.specs.Str.{bytes_eq}
@@ -28,6 +28,7 @@ use Rattle.state_codec.specs.Steps.{◌>>=◌}
 use Rattle.song_files.specs.Tags.{texts_of}
 use Rattle.song_files.specs.declared.tag.Tag.{Tag}
 use Rattle.machine_core.specs.Adding.{adds}
+use Rattle.machine_core.specs.Front.{SameFront}
 use Rattle.machine_core.specs.ListMoves.{adds_songs}
 use Rattle.machine_core.specs.Lists.{list_name}
 use Rattle.machine_core.specs.Meaning.{Meant, says}
@@ -148,9 +149,9 @@ finding_meaning mask (commands.ListTag tag tree) m =
 abbrev pub part_of : {X : Type 0} → Part → List X → List X
 part_of part xs = drop part.skip (take part.end xs)
 
--- What a writer does that looks at songs between its lines: it adds these lines at the end. Where memory is refused, for a line or
--- for a look, what was there stands there still.
+-- What a writer does that looks at songs between its lines: it adds these lines at the end, of which those may be missing that aren't given
+-- out of the answer. Also where memory is refused, for a line or for a look, what was there stands there still.
 pub record Writes {A E : Type 0} (lines : List ℕ) (result : Result A E) (before after : Vec ℕ) : Type 0 where
-  pub all : OnOk result (after.items ≡ before.items ++ lines)
-  pub front : OnErr result (take (length before.items) after.items ≡ before.items)
+  pub all : OnOk result (SameFront after.items (before.items ++ lines))
+  pub front : take (length before.items) after.items ≡ before.items
   pub room : vec_capacity before ≤ vec_capacity after

@@ -2,6 +2,7 @@ pub mod Lent
 pub mod State
 pub mod Told
 pub mod Followed
+pub mod Front
 pub mod Meaning
 pub mod Named
 pub mod Ordered

@@ -1,6 +1,7 @@
--- The limit on what one request may look at. Each song or entry counts 1 where a command passes over it, 10 for each time that it is
--- asked something, or a word is drawn for it, and 40 where it is sorted.
+-- The wide profile's limit on what one request may look at. Each song or entry counts 1 where a command passes over it, 10 for each time
+-- that it is asked something, or a word is drawn for it, and 40 where it is sorted.
 use Rattle.std.specs.Prelude.{ℕ, ◌+◌, ◌-◌, ◌*◌, ◌&&◌, min, List, length, nat_le, nat_lt, Option, Some, None, Result, Ok, Err}
+use Rattle.std.specs.Prelude.{Bool, true}
 use Rattle.std.specs.Prelude.{if◌then◌else◌}
 use Rattle.command_text.specs.declared.command.Command.{Command}
 use Rattle.command_text.specs.declared.command.Command.TheVariants as commands
@@ -44,17 +45,24 @@ use Rattle.machine_core.specs.Spans.{count_of, span_in, span_or_all, whole}
 use Rattle.machine_core.specs.State.{MachineState, shown_of}
 use Rattle.machine_core.specs.declared.span.Span.{Span}
 
--- The commands of one request look at so much at most.
+-- Under the wide profile the commands of one request look at so much at most.
 abbrev pub max_looks : ℕ
 max_looks = 10000000
 
--- what a command does that looks at so much, where those before it have looked at so much
-abbrev pub weighed : ℕ → ℕ → Meant → Meant
-weighed before looks meant = if nat_le (before + looks) max_looks then meant else Err RequestTooLarge
+-- Whether a request that has looked at so much may look at so much more: under the first profile it may look at anything.
+abbrev pub may_look : Profile → ℕ → ℕ → Bool
+may_look Named before looks = true
+may_look Wide before looks = nat_le (before + looks) max_looks
 
--- how much is looked at behind a command that looks at so much: where that would be too much, it looks at nothing
-abbrev pub looked : ℕ → ℕ → ℕ
-looked before looks = if nat_le (before + looks) max_looks then before + looks else before
+-- what a command does that looks at so much, where those before it have looked at so much
+abbrev pub weighed : Profile → ℕ → ℕ → Meant → Meant
+weighed profile before looks meant = if may_look profile before looks then meant else Err RequestTooLarge
+
+-- How much counts as looked at behind a command that looks at so much. Under the first profile it is counted up to what the wide one lets a
+-- request look at; under the wide one a command that would look at too much looks at nothing.
+abbrev pub looked : Profile → ℕ → ℕ → ℕ
+looked Named before looks = before + min looks (max_looks - before)
+looked Wide before looks = if nat_le (before + looks) max_looks then before + looks else before
 
 -- a song is chosen, or looked for: in random order a word is drawn for each entry
 abbrev pub choice_looks : MachineState → ℕ
@@ -204,8 +212,8 @@ settings_looks (settings.Random on) m = queue_length m
 settings_looks settings.Status m = choice_looks m
 settings_looks other m = 0
 
--- What a command looks at. What it answers doesn't count, since a longer answer than any that is sent ends its request; nor what its ops
--- hold, which is bounded by their bytes.
+-- What a command looks at. What it answers doesn't count, since behind an answer that is longer than any that is sent it isn't written; nor
+-- what its ops hold, which is bounded by their bytes.
 abbrev pub looks_of : Command → MachineState → ℕ
 looks_of (commands.Settings command) m = settings_looks command m
 looks_of (commands.Database command) m = database_looks command m

@@ -1,10 +1,17 @@
 -- What the events of a scan do: a batch of changes of rows, and the end.
-use Rattle.std.specs.Prelude.{ℕ, Bool, true, false, ◌&&◌, ◌==◌, List, [], ◌∷◌, ◌++◌, drop, filter, if◌then◌else◌}
+use Rattle.std.specs.Prelude.{ℕ, Bool, true, false, not, ◌&&◌, ◌==◌, List, [], ◌∷◌, ◌++◌, drop, filter, Option, Some, None, if◌then◌else◌}
+use Rattle.std.specs.Str.{bytes_eq}
+use Rattle.play_queue.specs.declared.entry.Entry.{Entry}
+use Rattle.player_core.specs.declared.playing.PlayState.{PlayState}
+use Rattle.player_core.specs.declared.playing.PlayState.TheVariants.{Stop, Play, Pause}
+use Rattle.player_core.specs.Order.{current_entry}
 use Rattle.profile.specs.declared.profile.Profile.{Profile}
+use Rattle.profile.specs.declared.profile.Profile.TheVariants.{Named, Wide}
 use Rattle.song_db.specs.Change.{after_change}
 use Rattle.song_db.specs.Effect.{effect_of, changes_a_row}
 use Rattle.song_db.specs.Row.{Row}
 use Rattle.song_db.specs.declared.change.RowChange.{RowChange}
+use Rattle.song_db.specs.declared.change.RowChange.TheVariants.{Put, Drop}
 use Rattle.state_codec.specs.Applied.{after_all}
 use Rattle.state_codec.specs.Changes.{is_kept_change}
 use Rattle.state_codec.specs.declared.op.Op.TheVariants.{Batch}
@@ -48,6 +55,29 @@ ends_scan m = record {
 abbrev pub when_scanned : ℕ → MachineState → Happening
 when_scanned job m = if is_running job m then ends_scan m else nothing_happens m
 
+-- whether a song is heard to its end under a profile: it plays or is in pause
+abbrev pub hears_in : Profile → PlayState → Bool
+hears_in Named state = false
+hears_in Wide Stop = false
+hears_in Wide Play = true
+hears_in Wide Pause = true
+
+-- an entry is of this song
+abbrev pub is_entry_of : List ℕ → Option Entry → Bool
+is_entry_of uri None = false
+is_entry_of uri (Some entry) = bytes_eq entry.uri uri
+
+abbrev pub hears : List ℕ → MachineState → Bool
+hears uri m = hears_in m.saved.profile m.player.state && is_entry_of uri (current_entry m.saved.queue.entries m.player.current)
+
+abbrev pub drops_heard : MachineState → RowChange → Bool
+drops_heard m (Put row) = false
+drops_heard m (Drop uri) = hears uri m
+
+-- Of changes all but one that drops the song that is heard: it stays, though its file is gone, until a job finds it so once more.
+abbrev pub spared : MachineState → List RowChange → List RowChange
+spared m changes = filter (λ change. not (drops_heard m change)) changes
+
 -- of changes those alone that put no row which the profile doesn't keep
 abbrev pub kept_changes : Profile → List RowChange → List RowChange
 kept_changes profile changes = filter (is_kept_change profile) changes
@@ -75,4 +105,5 @@ finds (change ∷ changes) m = changes_rows (change ∷ changes) m
 
 abbrev pub when_found : ℕ → List RowChange → MachineState → Happening
 when_found job changes m =
-    if is_running job m then if_room m (finds (telling m.saved.songs (kept_changes m.saved.profile changes)) m) else nothing_happens m
+    if is_running job m then if_room m (finds (telling m.saved.songs (kept_changes m.saved.profile (spared m changes))) m)
+    else nothing_happens m

@@ -41,6 +41,7 @@ status_of m = record {
   next = (shown_of m).next;
   job = running_job m.job;
   error = option_map (λ failure. lent failure) m.player.error;
+  is_unread = m.clock.is_unread;
 }
 
 -- the volume behind a step, from 0 to 100

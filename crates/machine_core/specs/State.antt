@@ -36,7 +36,7 @@ no_job = record { number = 0; place = None; opens_all = false; runs = false; has
 
 -- no clock has told anything
 abbrev pub untold : ClockTime
-untold = record { began = 0; uptime = 0; now = 0 }
+untold = record { began = 0; uptime = 0; now = 0; is_unread = false }
 
 -- a machine that has just begun with what was kept
 abbrev pub started : SavedState → MachineState

@@ -8,6 +8,7 @@ use Rattle.state_codec.specs.declared.op.Op.{Op}
 use Rattle.command_text.specs.declared.refusal.CommandRefusal.TheVariants.{RequestTooLarge}
 use Rattle.no_memory.specs.declared.NoMemory.{NoMemory as WantOfMemory}
 use Rattle.machine_core.specs.Meaning.{Meaning, Meant}
+use Rattle.machine_core.specs.Front.{SameFront, front_of}
 use Rattle.machine_core.specs.Keeping.{kept}
 use Rattle.machine_core.specs.Size.{max_request_bytes, room_by, within, within_room}
 use Rattle.machine_core.specs.State.{MachineState}
@@ -62,18 +63,36 @@ pub record AddsNothing (before after : Work) : Type 0 where
   pub ops : after.ops.items ≡ before.ops.items
   pub size : after.size ≡ before.size
 
+-- an answer that is longer than any that is sent was cut to what is given out of it; memory that was taken may stay
+pub record IsCut (before after : Work) : Type 0 where
+  pub text : after.text.items ≡ front_of before.text.items
+  pub room : vec_capacity before.text ≤ vec_capacity after.text
+  pub ops : after.ops.items ≡ before.ops.items
+  pub size : after.size ≡ before.size
+
+-- for what ends a command there is no room behind what is given out of the answer
+abbrev pub LacksText : Work → Type 0
+LacksText work = vec_capacity work.text < length (front_of work.text.items) + command_room
+
 -- these bytes were added to the answer, and nothing else was done
 pub record AddsText (more : List ℕ) (before after : Work) : Type 0 where
   pub text : after.text.items ≡ before.text.items ++ more
   pub ops : after.ops.items ≡ before.ops.items
   pub size : after.size ≡ before.size
 
--- the command did what it means: its lines and ops were added, and there is room for what ends a command, and for what is kept behind it
+-- the same, but that of these bytes those may be missing that aren't given out
+pub record TellsText (more : List ℕ) (before after : Work) : Type 0 where
+  pub text : SameFront after.text.items (before.text.items ++ more)
+  pub ops : after.ops.items ≡ before.ops.items
+  pub size : after.size ≡ before.size
+
+-- The command did what it means: its ops were added, and its lines, of which those may be missing that aren't given out; and there is room
+-- for what ends a command, and for what is kept behind it.
 pub record Went (profile : Profile) (meant : Meant) (after : MachineState) (work done : Work) : Type 0 where
   pub meaning : Meaning
   pub means : meant ≡ Ok meaning
   pub stands : after ≡ meaning.after
-  pub text : done.text.items ≡ work.text.items ++ meaning.text
+  pub text : SameFront done.text.items (work.text.items ++ meaning.text)
   pub ops : AddsOps meaning.ops (length (ops_bytes profile meaning.ops)) work done
   pub room : HasRoom command_room done
   pub keeps : CanKeep work → CanKeep done
@@ -110,12 +129,13 @@ PerformsAside meant before after work done (Ok x) =
     Went before.saved.profile meant after work done × (done.size + room_by before.saved.profile ≤ max_request_bytes)
 PerformsAside meant before after work done (Err failure) = FailedKept meant before after work done failure
 
--- the command did what it means, and what plays then is kept: its lines and all ops were added, and there is room for what ends a command
+-- The command did what it means, and what plays then is kept: all ops were added, and its lines, of which those may be missing that aren't
+-- given out; and there is room for what ends a command.
 pub record WentKept (profile : Profile) (meant : Meant) (after : MachineState) (work done : Work) : Type 0 where
   pub meaning : Meaning
   pub means : meant ≡ Ok meaning
   pub stands : after ≡ meaning.after
-  pub text : done.text.items ≡ work.text.items ++ meaning.text
+  pub text : SameFront done.text.items (work.text.items ++ meaning.text)
   pub ops : AddsOps meaning.ops (length (ops_bytes profile meaning.ops)) work done
   pub room : HasRoom command_room done
 

@@ -1,21 +1,22 @@
 // The lines of what a command found, one after the other.
 ghost use Rattle.std.specs.Prelude.{◌++◌, map, option_copied};
 ghost use Rattle.std.specs.List.{flat_map};
-ghost use Rattle.command_text.specs.Answer.{Adds};
+ghost use Rattle.command_text.specs.Answer.{Adds, pair};
 ghost use Rattle.command_text.specs.AnswerNames.{directory_line, sticker_line};
 ghost use Rattle.command_text.specs.AnswerSongs.{song_lines};
 ghost use Rattle.stickers.specs.Sticker.{stickers_of};
 ghost use Rattle.machine_core.specs.Stickers.{found_lines, song_found, song_stickers};
 
-use command_text::{NoMemory, TagMask, write_directory, write_file, write_song, write_sticker};
+use command_text::{NoMemory, TagMask, write_file, write_pair, write_song, write_sticker};
 use song_db::{SongRow, Texts};
 use stickers::{Found, SongStickers, StickerValue, Stickers};
 
-fn write_folders(out: &mut Vec<u8>, folders: &Texts<'_>) -> Result<(), NoMemory>
-    ensures { Adds (flat_map directory_line folders.now) result out.old out.new }
+// Adds a line `key: TEXT` for each text.
+pub(crate) fn write_texts(out: &mut Vec<u8>, key: &str, texts: &Texts<'_>) -> Result<(), NoMemory>
+    ensures { Adds (flat_map (pair key.now) texts.now) result out.old out.new }
 {
-    for folder in folders.iter() {
-        write_directory(out, *folder)?;
+    for text in texts.iter() {
+        write_pair(out, key, text.as_bytes())?;
     }
     Ok(())
 }
@@ -44,7 +45,7 @@ pub(crate) fn write_content(
     ensures { Adds (flat_map directory_line folders.now ++ flat_map (song_lines mask) (map (λ song. song.now) songs.now))
         result out.old out.new }
 {
-    write_folders(out, folders)?;
+    write_texts(out, "directory", folders)?;
     write_songs(out, mask, songs)
 }
 

@@ -14,6 +14,8 @@ pub struct ClockTime {
     pub uptime: u64,
     /// The time of day: seconds since the beginning of 1970, Universal Time.
     pub now: u64,
+    /// Whether nobody has read the output for ten seconds, though there is something to play.
+    pub is_unread: bool,
 }
 
 impl ClockTime {
@@ -25,6 +27,7 @@ impl ClockTime {
             began: 0,
             uptime: 0,
             now: 0,
+            is_unread: false,
         }
     }
 }

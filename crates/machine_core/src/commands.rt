@@ -27,9 +27,9 @@ mod status;
 mod sticker;
 
 impl Machine {
-    /// Performs a command of a client that sees these tags, for whose end the answer has room, and says which subsystems it changed. One by
-    /// which the request would look at more than it may is refused before it looks at anything. Refused, or without memory, it leaves
-    /// machine and answer as they were.
+    /// Performs a command of a client that sees these tags, for whose end the answer has room, and says which subsystems it changed.
+    /// Refused, or without memory, it leaves machine and answer as they were. Under the wide profile one by which the request would look at
+    /// more than it may is refused before it looks at anything. Of an answer that is longer than any that is sent lines may be missing.
     ///
     /// Where the journal's disk has no room, one that would change what is saved is refused `DiskFull`, and what plays isn't kept.
     ///
@@ -48,13 +48,13 @@ impl Machine {
     ) -> Result<Subsystems, Failure>
         requires room { HasRoom command_room work.old }
         requires keeps { CanKeepBy self.old.saved.profile work.old }
-        ensures performs { PerformsKept (weighed looks.old (looks_of command.entry self.old)
+        ensures performs { PerformsKept (weighed self.old.saved.profile looks.old (looks_of command.entry self.old)
             (under_room self.old (meaning mask command.entry self.old))) self.old self.new work.old work.new result }
-        ensures looks { looks.new ≡ looked looks.old (looks_of command.entry self.old) }
+        ensures looks { looks.new ≡ looked self.old.saved.profile looks.old (looks_of command.entry self.old) }
         ensures changed { IfOk result (λ set. set ≡ changed self.old self.new) }
         ensures memory { result ≡ Err Failure.NoMemory → takes_memory command.entry self.old ≡ true }
     {
-        looks.take(self.looks_of(&command))?;
+        looks.take(self.saved.profile(), self.looks_of(&command))?;
         self.perform_kept(alloc, mask, command, work)
     }
 

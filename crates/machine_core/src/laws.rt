@@ -18,6 +18,7 @@ ghost use Rattle.stored_lists.specs.Name.{is_good_name};
 ghost use Rattle.stored_lists.specs.Songs.{Uris};
 ghost use Rattle.machine_core.specs.Command.{meaning};
 ghost use Rattle.machine_core.specs.Database.{asked, begins_job, next_number};
+ghost use Rattle.machine_core.specs.Front.{SameFront, front_of, longest_answer};
 ghost use Rattle.machine_core.specs.Keeping.{kept, kept_event, when_kept, when_resumed};
 ghost use Rattle.machine_core.specs.ListMoves.{adds_songs_at, moves_songs, puts_in, with_block_at, with_songs_at};
 ghost use Rattle.machine_core.specs.Meaning.{Meaning, Meant, edits};
@@ -25,7 +26,7 @@ ghost use Rattle.machine_core.specs.Missing.{after_withheld, again_seconds, aske
 ghost use Rattle.machine_core.specs.Reports.{when_broken, when_ended, when_fed};
 ghost use Rattle.machine_core.specs.Restart.{GoesOnAs, IsKeptMachine, IsSoundPlace, IsThere};
 ghost use Rattle.machine_core.specs.Room.{SavesNothing, under_room, when_room};
-ghost use Rattle.machine_core.specs.Scanning.{is_running, jobs_of, kept_changes, telling, when_found, when_scanned};
+ghost use Rattle.machine_core.specs.Scanning.{hears_in, is_running, jobs_of, kept_changes, spared, telling, when_found, when_scanned};
 ghost use Rattle.machine_core.specs.Sound.{IsSound, IsSoundMachine};
 ghost use Rattle.machine_core.specs.Spans.{count_of};
 ghost use Rattle.machine_core.specs.State.{MachineState, lacks_room, started, told_time};
@@ -70,7 +71,8 @@ pub fn songs_go_to_their_place()
 {}
 
 /// The end of a song makes no op exactly where it leaves the saved half as it was, and so does its failure; a batch of the job that runs
-/// makes none exactly where no change of it that the profile keeps changes a row at its turn.
+/// makes none exactly where no change of it that the profile keeps, beside one that drops the song that is heard, changes a row at its
+/// turn.
 pub fn no_op_of_an_event_without_a_change()
     ensures none { (ticket : ℕ) (m : MachineState) → IsSavedState m.saved
         → (kept_event m (when_ended ticket m)).after.saved ≡ m.saved → (kept_event m (when_ended ticket m)).ops ≡ [] }
@@ -81,7 +83,8 @@ pub fn no_op_of_an_event_without_a_change()
     ensures broken_same { (ticket : ℕ) (cause : BrokenCause) (m : MachineState) → (kept_event m (when_broken ticket cause m)).ops ≡ []
         → (kept_event m (when_broken ticket cause m)).after.saved ≡ m.saved }
     ensures found { (job : ℕ) (changes : List RowChange) (m : MachineState) → is_running job m ≡ true → lacks_room m ≡ false
-        → ((kept_event m (when_found job changes m)).ops ≡ [] ↔ telling m.saved.songs (kept_changes m.saved.profile changes) ≡ []) }
+        → ((kept_event m (when_found job changes m)).ops ≡ []
+        ↔ telling m.saved.songs (kept_changes m.saved.profile (spared m changes)) ≡ []) }
     ensures kept_none { (ticket : ℕ) (m : MachineState) → IsSavedState m.saved
         → (when_kept ticket m).after.saved ≡ m.saved → (when_kept ticket m).ops ≡ [] }
     ensures kept_same { (ticket : ℕ) (m : MachineState) → (when_kept ticket m).ops ≡ [] → (when_kept ticket m).after.saved ≡ m.saved }
@@ -89,6 +92,26 @@ pub fn no_op_of_an_event_without_a_change()
         → (when_room is_there m).after.saved ≡ m.saved → (when_room is_there m).ops ≡ [] }
     ensures told_same { (is_there : Bool) (m : MachineState) → (when_room is_there m).ops ≡ []
         → (when_room is_there m).after.saved ≡ m.saved }
+{}
+
+/// Under the wide profile a batch doesn't take the song away that plays or is in pause: the player stays with it. Where none does, each
+/// change is made.
+pub fn heard_song_stays()
+    ensures current { (job : ℕ) (changes : List RowChange) (m : MachineState) → hears_in m.saved.profile m.player.state ≡ true
+        → (kept_event m (when_found job changes m)).after.player.current ≡ m.player.current }
+    ensures state { (job : ℕ) (changes : List RowChange) (m : MachineState) → hears_in m.saved.profile m.player.state ≡ true
+        → (kept_event m (when_found job changes m)).after.player.state ≡ m.player.state }
+    ensures ticket { (job : ℕ) (changes : List RowChange) (m : MachineState) → hears_in m.saved.profile m.player.state ≡ true
+        → (kept_event m (when_found job changes m)).after.player.ticket ≡ m.player.ticket }
+    ensures all { (changes : List RowChange) (m : MachineState) → hears_in m.saved.profile m.player.state ≡ false
+        → spared m changes ≡ changes }
+{}
+
+/// An answer that a session takes is given out as it is meant, and of a longer one so much that no session takes it.
+pub fn answers_that_are_sent_are_whole()
+    ensures whole { (text : List ℕ) → length text ≤ longest_answer → front_of text ≡ text }
+    ensures same { (text meant : List ℕ) → SameFront text meant → length meant ≤ longest_answer → text ≡ meant }
+    ensures too_long { (text : List ℕ) → longest_answer < length text → longest_answer < length (front_of text) }
 {}
 
 /// Without room nothing that is saved changes: a command that goes well makes no op, nor does the end of a song, its failure or a batch,

@@ -33,4 +33,4 @@ pub use happened::Happened;
 pub use job::{Job, WaitingJob, WithheldJob};
 pub use looks::{Looks, MAX_LOOKS};
 pub use machine::Machine;
-pub use work::{Failure, MAX_REQUEST_BYTES, Work};
+pub use work::{Failure, LONGEST_ANSWER, MAX_REQUEST_BYTES, Work, cut_answer};

@@ -1,13 +1,14 @@
 // What a request may look at: what a command looks at is told before it is performed.
-ghost use Rattle.std.specs.Prelude.{◌≡◌, ◌+◌, ◌<◌, ◌≤◌, ◌^◌, OnErr, OnOk, IfErr, length};
+ghost use Rattle.std.specs.Prelude.{◌≡◌, ◌<◌, ◌≤◌, ◌^◌, false, true, OnOk, IfErr, length};
 ghost use Rattle.std.specs.Option.{option_copied};
 ghost use Rattle.command_text.specs.declared.refusal.CommandRefusal.TheVariants.{RequestTooLarge};
 ghost use Rattle.machine_core.specs.Looks.{alone_looks, arranged, choice_looks, database_looks, entries_looks, finding_looks, groups_looks};
 ghost use Rattle.machine_core.specs.Looks.{added_looks, block_looks, count_named, gap_of, listed_looks, most_in, placed_looks, range_looks};
-ghost use Rattle.machine_core.specs.Looks.{leaving_looks, list_looks, lists_looks, looks_of, max_looks, moved_looks, parted, queue_looks};
-ghost use Rattle.machine_core.specs.Looks.{search_looks, settings_looks, stickers_looks, values_looks};
+ghost use Rattle.machine_core.specs.Looks.{leaving_looks, list_looks, lists_looks, looked, looks_of, may_look, moved_looks, parted};
+ghost use Rattle.machine_core.specs.Looks.{queue_looks, search_looks, settings_looks, stickers_looks, values_looks};
 ghost use Rattle.machine_core.specs.Lists.{songs_named};
 ghost use Rattle.machine_core.specs.Queue.{place_of_id};
+ghost use Rattle.song_files.specs.declared.tag.TheConstants.{TAG_COUNT};
 
 use crate::machine::Machine;
 use crate::span::{Span, span_in, span_or_all};
@@ -22,7 +23,8 @@ use song_files::TAG_COUNT;
 use std::marker::Model;
 use stored_lists::Songs;
 
-/// The commands of one request look at so much at most; docs/PROTOCOL.md says what counts how much.
+/// Under the wide profile the commands of one request look at so much at most, and under the first one they are counted up to it;
+/// docs/PROTOCOL.md says what counts how much.
 pub const MAX_LOOKS: u64 = 10_000_000;
 
 /// How much the commands of a request have looked at so far.
@@ -58,16 +60,20 @@ impl Looks {
     }
 
     // Takes so much more, where the request may look at it.
-    pub(crate) fn take(&mut self, more: u64) -> Result<(), CommandRefusal>
-        ensures within { OnOk result (self.old + more ≤ max_looks) }
-        ensures ok { OnOk result (self.new ≡ self.old + more) }
-        ensures err { OnErr result (self.new ≡ self.old) }
-        ensures refused { IfErr result (λ refusal. (refusal ≡ RequestTooLarge) × (max_looks < self.old + more)) }
+    pub(crate) fn take(&mut self, profile: Profile, more: u64) -> Result<(), CommandRefusal>
+        ensures looks { self.new ≡ looked profile self.old more }
+        ensures ok { OnOk result (may_look profile self.old more ≡ true) }
+        ensures refused { IfErr result (λ refusal. (refusal ≡ RequestTooLarge) × (may_look profile self.old more ≡ false)) }
     {
-        if more > MAX_LOOKS - self.taken {
-            return Err(CommandRefusal::RequestTooLarge);
+        match profile {
+            Profile::Named => self.taken += more.min(MAX_LOOKS - self.taken),
+            Profile::Wide => {
+                if more > MAX_LOOKS - self.taken {
+                    return Err(CommandRefusal::RequestTooLarge);
+                }
+                self.taken += more;
+            }
         }
-        self.taken += more;
         Ok(())
     }
 }
@@ -262,7 +268,7 @@ impl Machine {
 
     // Of so many tags, each within the values of the tag before.
     fn groups_looks(&self, tags: u8, filter: Option<&Filter>) -> u64
-        requires { tags ≤ 31 }
+        requires { tags ≤ TAG_COUNT }
         ensures { result ≡ groups_looks tags (option_copied filter.entry) self.now }
     {
         match filter {

@@ -13,6 +13,7 @@ ghost use Rattle.machine_core.specs.Meaning.{order_ops};
 ghost use Rattle.machine_core.specs.Scanning.{after_job, is_running, when_scanned, when_found, changes_rows};
 ghost use Rattle.machine_core.specs.Work.{keep_count};
 
+mod heard;
 mod missing;
 mod rows;
 
@@ -69,8 +70,8 @@ impl Machine {
     }
 
     /// A scan has read a batch. One op makes the changes of it that change a row at their turn, but for rows that the profile doesn't
-    /// keep. Nothing happens where there are none, where the job of this number doesn't run, or where the journal's disk has no room.
-    /// Without memory the machine stays as it was.
+    /// keep, and but for one that drops the song that is heard under the wide profile. Nothing happens where there are none, where the job
+    /// of this number doesn't run, or where the journal's disk has no room. Without memory the machine stays as it was.
     pub fn batch(&mut self, alloc: Global, job: u32, changes: Changes) -> Result<Happened, NoMemory>
         ensures ok { IfOk result (λ happened. HasHappened (kept_event self.old
             (when_found job changes self.old)) self.old self.new happened) }
@@ -82,8 +83,9 @@ impl Machine {
         if self.lacks_room() {
             return Ok(nothing(alloc));
         }
+        let spared = self.spare(changes);
         let profile = self.saved.profile();
-        let told = telling(alloc, profile, self.saved.songs(), changes)?;
+        let told = telling(alloc, profile, self.saved.songs(), spared)?;
         match Changes::new(told) {
             Some(told) => self.change_rows(alloc, told),
             None => Ok(nothing(alloc)),

@@ -1,6 +1,7 @@
 // What a request makes while its commands are performed: the bytes of its answers and its ops, within their limits.
-ghost use Rattle.std.specs.Prelude.{◌≡◌, ◌+◌, ◌<◌, ◌≤◌, length, None, IfSome};
+ghost use Rattle.std.specs.Prelude.{◌≡◌, ◌+◌, ◌<◌, ◌≤◌, length, vec_capacity, None, IfSome};
 ghost use Rattle.state_codec.specs.Spelling.{ops_bytes};
+ghost use Rattle.machine_core.specs.Front.{front_of};
 ghost use Rattle.machine_core.specs.Size.{max_request_bytes, room_by};
 
 use command_text::{CommandRefusal, Refusal, want_of_memory, write_ack, write_list_ok, write_ok};
@@ -12,8 +13,9 @@ use std::alloc::{AllocError, AllocFailed, Global};
 /// A record of the journal holds so many bytes: the ops of one request, and the sum behind them where the profile has one.
 pub const MAX_REQUEST_BYTES: usize = 2_097_152;
 
-/// No client gets an answer of more bytes: whatever makes it longer is the last that is done of its request.
-pub(crate) const LONGEST_ANSWER: usize = 8_388_608;
+/// A session takes no answer of more bytes (`OUTPUT_LIMIT` of `client_session`): of a longer one a front is given out that is longer too,
+/// so that it is refused there, by its own number.
+pub const LONGEST_ANSWER: usize = 8_388_608;
 
 /// What is kept of the player and of the playlists' time behind one command takes at most so many bytes ..
 pub(crate) const LONGEST_KEEP: usize = 33;
@@ -112,17 +114,28 @@ fn size_with(size: usize, profile: Profile, ops: &[Op]) -> Option<usize>
     Some(all)
 }
 
+/// Cuts an answer that is longer than any that a session takes to the front that is given out of it.
+#[tactic(auto, unfolding(crate::specs::Front::front_of))]
+pub fn cut_answer(text: &mut Vec<u8>)
+    ensures text { text.new.items ≡ front_of text.old.items }
+    ensures room { vec_capacity text.new ≡ vec_capacity text.old }
+{
+    text.truncate(LONGEST_ANSWER + 1);
+}
+
 impl Work {
     ghost use Rattle.std.specs.Prelude.{◌≡◌, ◌+◌, ◌-◌, ◌<◌, ◌≤◌, ◌∷◌, ◌++◌, [], length, vec_len, vec_capacity, IfOk, OnOk, OnErr, IfErr};
-    ghost use Rattle.std.specs.Prelude.{MatchBool};
+    ghost use Rattle.std.specs.Prelude.{MatchBool, Ok};
     ghost use Rattle.command_text.specs.Answer.{ack, list_ok, ok};
     ghost use Rattle.command_text.specs.Reading.{name_of_line, want_of_memory};
     ghost use Rattle.state_codec.specs.Sealed.{checksum_len};
     ghost use Rattle.state_codec.specs.Spelling.{ops_bytes};
     ghost use Rattle.state_codec.specs.SpellingOps.{op_bytes};
+    ghost use Rattle.machine_core.specs.Front.{longest_answer};
     ghost use Rattle.machine_core.specs.Meaning.{order_ops};
     ghost use Rattle.machine_core.specs.Size.{max_request_bytes, room_by};
-    ghost use Rattle.machine_core.specs.Work.{HasRoom, Admits, AddsOps, AddsNothing, AddsText, CanKeep, CanKeepBy, IsTooMuch, Keeps};
+    ghost use Rattle.machine_core.specs.Work.{HasRoom, Admits, AddsOps, AddsNothing, AddsText, CanKeep, CanKeepBy, IsCut, IsTooMuch, Keeps};
+    ghost use Rattle.machine_core.specs.Work.{LacksText};
     ghost use Rattle.machine_core.specs.Work.{ack_room, command_room, keep_count};
 
     /// Nothing is made yet. There is room for what ends the first command.
@@ -139,21 +152,27 @@ impl Work {
         })
     }
 
-    /// Takes the room that a command needs from the start, also for what is kept of the player behind it. Behind an answer that is
-    /// longer than any that is sent there is none.
+    /// Takes the room that a command needs from the start, also for what is kept of the player behind it. An answer that is longer than
+    /// any that is sent is cut first. Refused where the room isn't there.
     pub fn make_room(&mut self, profile: Profile) -> Result<(), NoMemory>
         ensures ok { OnOk result (HasRoom command_room self.new) }
         ensures keeps { OnOk result (CanKeepBy profile self.new) }
-        ensures nothing { AddsNothing self.old self.new }
+        ensures cut { IsCut self.old self.new }
+        ensures full { OnErr result (CanKeepBy profile self.old → LacksText self.old) }
     {
-        if self.text.len() > LONGEST_ANSWER {
-            return Err(NoMemory);
-        }
+        cut_answer(&mut self.text);
         if let Profile::Wide = profile {
             self.ops.reserve(KEEP_COUNT)?;
         }
         self.text.reserve(COMMAND_ROOM)?;
         Ok(())
+    }
+
+    /// Whether the answer is longer than any that is sent: of what is added to it nothing is given out.
+    pub fn is_long(&self) -> bool
+        ensures { MatchBool result (longest_answer < vec_len self.now.text) (vec_len self.now.text ≤ longest_answer) }
+    {
+        self.text.len() > LONGEST_ANSWER
     }
 
     // Takes the bytes for what is kept behind a command, so that the command's own ops leave them free.
@@ -324,6 +343,14 @@ impl Work {
         }
         self.text.truncate(mark);
         Err(Failure::NoMemory)
+    }
+
+    /// Adds no lines, and takes the room for what ends a command.
+    pub fn keep_none(&mut self) -> Result<(), Failure>
+        ensures { Keeps (vec_len self.old.text) (Ok tt) self.old self.new result }
+    {
+        let mark = self.text.len();
+        self.keep(mark, Ok(()))
     }
 
     /// Ends the answer by the `ACK` line of want of memory at this command, for which there is room.

@@ -68,10 +68,6 @@ looked_out c k n e put es rest behind more whole count front last same is =
     (append_assoc (asked_in c behind) (asked_by_event c e) (asked_in c (take n rest)))
     ∙ first_left c k n e es rest behind whole count front is
 
--- at first nothing was looked at
-pub none_looked : (c : ℕ) (es : List ClientEvent) → drop (length es) es ≡ [] → take (length es) es ≡ es → IsWhole c (asked_in c es) (length es) es []
-none_looked c es gone all = (λ i. asked_in c (gone i) ++ asked_in c (all i))
-
 -- what was told stands behind all others
 told_on : (c k : ℕ) (p : ClientEvent) (es fs behind : List ClientEvent) (whole : List Request) → k ≤ length es
     → (fs ≡ es ++ p ∷ []) ⊎ (fs ≡ es) → asked_by_event c p ≡ [] → IsWhole c whole k es behind → IsWhole c whole k fs behind
@@ -103,11 +99,6 @@ looked_told c k n e put p es rest told after behind whole count front within say
     looked_on c k n e put (e ∷ told) told after behind whole count refl (omega (arith, within, longer)) last same apart
     (told_on c k p (e ∷ rest) (e ∷ told) behind whole (omega (arith, count, within)) (behind_first e p rest told says) none
     (subst (λ (t : List ClientEvent). IsWhole c whole k t behind) front is))
-
--- in the end all were looked at
-pub all_looked : (c : ℕ) (es behind : List ClientEvent) (whole : List Request) → IsWhole c whole zero es behind
-    → asked_in c es ++ asked_in c behind ≡ whole
-all_looked c es behind whole is = ap (λ (t : List Request). asked_in c es ++ t) (sym (append-nil (asked_in c behind))) ∙ is
 
 -- ---- who waits
 
@@ -243,14 +234,6 @@ served_told k n e put p es rest told after count front within says last one two 
     (all_last IsUnsought (drop n told) put (told_served n p rest told within says one (served_from k n e es rest count front all)) two)
 
 -- ---- whether any line may ask
-
-pub or_first : (a b : Bool) → (a || b) ≡ false → a ≡ false
-or_first true b none = none
-or_first false b none = refl
-
-pub or_rest : (a b : Bool) → (a || b) ≡ false → b ≡ false
-or_rest true b none = absurd (cc none)
-or_rest false b none = none
 
 -- ---- how many events are to be served
 

@@ -37,11 +37,6 @@ pub quiet_told : {S : Type 0} (slot : Option (Client S)) (es fs : List ClientEve
 quiet_told None es fs told = quiet_same es fs told
 quiet_told (Some client) es fs told = quiet_gone client.is_released client.id es fs told
 
--- no more than all events ask
-pub quiet_whole : (waits : Bool) (es : List ClientEvent) → QuietBehind waits (length es) es
-quiet_whole waits [] = tt
-quiet_whole waits (e ∷ es) = quiet_whole waits es
-
 -- what isn't to be served is sought, or asks for nothing
 quiet_sought : (e : ClientEvent) (c : ℕ) → IsQuiet true e → asked_by_event c e ≡ sought_by_event c e
 quiet_sought (events.Connect client) c h = refl

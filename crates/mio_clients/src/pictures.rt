@@ -2,7 +2,7 @@
 // history, in front of the request that asked.
 
 use crate::CLIENT_LIMIT;
-use covers::{PictureAnswer, PictureAsk, PictureKind};
+use covers::{PictureAnswer, PictureAsk};
 use crossbeam_channel::{Receiver, Sender, TryRecvError};
 use daemon_core::PictureTold;
 use std::alloc::{AllocError, Global};
@@ -51,11 +51,9 @@ pub struct PictureLine {
 }
 
 fn is_for(told: &PictureTold, ask: &PictureAsk) -> bool {
-    let same_kind = matches!(
-        (told.ask.kind, ask.kind),
-        (PictureKind::Album, PictureKind::Album) | (PictureKind::Inside, PictureKind::Inside)
-    );
-    same_kind && told.ask.uri.as_str() == ask.uri.as_str() && told.ask.offset == ask.offset
+    told.ask.kind.is(ask.kind)
+        && told.ask.uri.as_str() == ask.uri.as_str()
+        && told.ask.offset == ask.offset
 }
 
 impl PictureLine {

@@ -1,14 +1,18 @@
 -- What an event does to the job of the database.
 use Rattle.std.proofs.Common.{◌≡◌, ℕ, suc, ◌<◌, Bool, true, false, List, [], ◌∷◌, length, drop, Option, Some, None, if◌then◌else◌}
-use Rattle.std.proofs.Common.{refl, ◌∙◌, ap, arith}
+use Rattle.std.proofs.Common.{refl, sym, subst, ◌∙◌, ap, arith}
 use Rattle.std.proofs.lemmas.Bool.{eq-eqb}
 use Rattle.idle_masks.specs.Watched.{watched}
 use Rattle.idle_masks.specs.declared.watch.Watched.{Watched}
 use Rattle.song_db.specs.declared.change.RowChange.{RowChange}
 use Rattle.machine_core.specs.Happening.{Happening, if_room, nothing_happens}
+use Rattle.machine_core.specs.Keeping.{keeps_place}
+use Rattle.machine_core.specs.Room.{caught, is_idle, room_back, when_room}
 use Rattle.machine_core.specs.Scanning.{after_job, ends_scan, is_running, job_behind, kept_changes, telling, finds, when_found, when_scanned}
-use Rattle.machine_core.specs.State.{MachineState, lacks_room}
+use Rattle.machine_core.specs.Scanning.{spared}
+use Rattle.machine_core.specs.State.{MachineState, lacks_room, told_room}
 use Rattle.machine_core.specs.declared.clock.ClockTime.{ClockTime}
+use Rattle.machine_core.specs.declared.job.Job.{Job}
 use Rattle.machine_core.specs.declared.job.WaitingJob.{WaitingJob}
 use Rattle.daemon_core.specs.declared.picture.PictureTold.{PictureTold}
 use Rattle.daemon_core.specs.declared.event.Event.TheVariants as events
@@ -41,7 +45,7 @@ batch_leaves : (n : ℕ) (changes : List RowChange) (m : MachineState) → IsRun
 batch_leaves n changes m is = by_running (is_running n m)
   where
     told : List RowChange
-    told = telling m.saved.songs (kept_changes m.saved.profile changes)
+    told = telling m.saved.songs (kept_changes m.saved.profile (spared m changes))
 
     in_room : (lacks : Bool) → (let h : Happening = if lacks then nothing_happens m else finds told m in IsRunning n h.after.job)
     in_room true = is
@@ -62,7 +66,7 @@ batch_leaves_waiting : (n : ℕ) (changes : List RowChange) (m : MachineState)
 batch_leaves_waiting n changes m = by_running (is_running n m)
   where
     told : List RowChange
-    told = telling m.saved.songs (kept_changes m.saved.profile changes)
+    told = telling m.saved.songs (kept_changes m.saved.profile (spared m changes))
 
     in_room : (lacks : Bool) → (let h : Happening = if lacks then nothing_happens m else finds told m in h.after.waiting ≡ m.waiting)
     in_room true = refl
@@ -124,3 +128,43 @@ pub picture_idles : (c : ℕ) (told : PictureTold) (s t : State) → StepsTo (ev
     → RunsNone t.machine.job
 unfolding step
 picture_idles c told s t h is = ap (λ (v : State). v.machine.job.runs) h.state ∙ is
+
+-- what is told of room leaves the job
+room_leaves : (is_there : Bool) (m : MachineState) → (let h : Happening = when_room is_there m in h.after.job) ≡ m.job
+room_leaves false m = refl
+room_leaves true m = back (lacks_room m)
+  where
+    caught_up : (idle : Bool)
+        → (let h : Happening = if idle then nothing_happens (told_room true m) else keeps_place (caught m) in h.after.job) ≡ m.job
+    caught_up true = refl
+    caught_up false = refl
+
+    back : (lacks : Bool) → (let h : Happening = room_back lacks m in h.after.job) ≡ m.job
+    back true = caught_up (is_idle m.player)
+    back false = refl
+
+pub room_keeps_job : (is_there : Bool) (s t : State) → StepsTo (events.Room is_there) s t → t.machine.job ≡ s.machine.job
+unfolding step
+room_keeps_job is_there s t h = ap (λ (v : State). v.machine.job) h.state ∙ room_leaves is_there s.machine
+
+-- and those that wait
+room_leaves_waiting : (is_there : Bool) (m : MachineState) → (let h : Happening = when_room is_there m in h.after.waiting) ≡ m.waiting
+room_leaves_waiting false m = refl
+room_leaves_waiting true m = back (lacks_room m)
+  where
+    caught_up : (idle : Bool)
+        → (let h : Happening = if idle then nothing_happens (told_room true m) else keeps_place (caught m) in h.after.waiting) ≡ m.waiting
+    caught_up true = refl
+    caught_up false = refl
+
+    back : (lacks : Bool) → (let h : Happening = room_back lacks m in h.after.waiting) ≡ m.waiting
+    back true = caught_up (is_idle m.player)
+    back false = refl
+
+pub room_keeps_waiting : (is_there : Bool) (s t : State) → StepsTo (events.Room is_there) s t → t.machine.waiting ≡ s.machine.waiting
+unfolding step
+room_keeps_waiting is_there s t h = ap (λ (v : State). v.machine.waiting) h.state ∙ room_leaves_waiting is_there s.machine
+
+-- a job that is the same still runs
+pub runs_on : (n : ℕ) (s t : State) → t.machine.job ≡ s.machine.job → IsRunning n s.machine.job → IsRunning n t.machine.job
+runs_on n s t same is = subst (λ (j : Job). IsRunning n j) (sym same) is

@@ -5,6 +5,7 @@ pub mod FormatLaws
 pub mod InputLaws
 pub mod JobLaws
 pub mod LifeLaws
+pub mod RoomLaws
 pub mod ScanLaws
 pub mod ServingLaws
 pub mod WrongLines

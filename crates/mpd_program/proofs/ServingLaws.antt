@@ -301,7 +301,7 @@ module _ (Honest : Type 0) (c : ℕ) (event : Event) (k : Option ℕ) (s t : Sta
   }
 
 -- a disk failed in an event
-one_failed : (Honest : Type 0) (c : ℕ) (event : Event) (s r : State) (a b : List Change) (t u : ℕ) (before : Option (List ℕ))
+pub one_failed : (Honest : Type 0) (c : ℕ) (event : Event) (s r : State) (a b : List Change) (t u : ℕ) (before : Option (List ℕ))
     → (Honest → (k : Option ℕ) × AllFindSince (IsBeforeOrAfter s event k) a t b u)
     → ComesInTurn s.machine.job event → ServesEvents Honest c (asked event) s r a b before before (Err Faulted)
 one_failed Honest c event s r a b t u before found turn = record {

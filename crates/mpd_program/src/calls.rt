@@ -1,4 +1,4 @@
-// Calls of the system that a thread makes for the music, counted so that another one sees whether it stands in one.
+// Calls of the system that a thread makes for the music or the sound, counted so that another one sees whether it stands in one.
 ghost use Rattle.std.specs.Prelude.{[]};
 
 use song_files::{FileSource, Source, SourceFault};
@@ -73,6 +73,11 @@ impl CallWatch {
         }
         self.is_told = true;
         true
+    }
+
+    /// Whether the call in which the thread was seen last has taken ten seconds.
+    pub fn is_standing(&self, now: u64) -> bool {
+        self.seen % 2 == 1 && now.saturating_sub(self.since) >= LATE
     }
 }
 

@@ -238,7 +238,13 @@ fn songs<'a>(
     calls: Calls,
 ) -> Result<Songs<'a>, AllocError> {
     let lines = ErrorLines::new(rt, stop.again()?);
-    let music = Music::new(rt, config.music.as_str(), Some(lines), calls)?;
+    let music = Music::new(
+        rt,
+        config.profile(),
+        config.music.as_str(),
+        Some(lines),
+        calls,
+    )?;
     songs_by(config, stop, music, decoder(rt, config, stop)?)
 }
 
@@ -312,14 +318,19 @@ fn begin<'a>(
 ) -> Result<(DaemonClients<'a>, DaemonWorkers<'a>), Exit> {
     tell_descriptors(rt, wanted_descriptors(config.profile()));
     let (player, scan) = (Calls::new(rt.alloc())?, Calls::new(rt.alloc())?);
-    let reader = Calls::new(rt.alloc())?;
+    let (reader, waits) = (Calls::new(rt.alloc())?, Calls::new(rt.alloc())?);
     let calls = MusicCalls {
         player: CallWatch::new(player.again()?),
         scan: CallWatch::new(scan.again()?),
         pictures: CallWatch::new(reader.again()?),
+        output: CallWatch::new(waits.again()?),
     };
     let (clients, wake) = listen(rt, config, address, clock, calls)?;
     let _cleared = output.clear();
+    let mut output = output;
+    if let Profile::Wide = config.profile() {
+        output.count(waits);
+    }
     let workers = Workers {
         sources: songs(rt, config, &stop, player)?,
         folder: songs(rt, config, &stop, scan)?,
@@ -366,10 +377,16 @@ fn open_told<R: Threads + Wait + Clock + Sync>(
             opened
         },
     );
-    if opened.is_ok() {
-        opening.end(threads);
+    let opened = match opened {
+        Ok(opened) => opened,
+        Err(end) => return Err(end),
+    };
+    if !opening.end(threads) {
+        return Ok(opened);
     }
-    opened
+    let mut opened = opened;
+    opened.count_as_much();
+    Ok(opened)
 }
 
 /// Serves clients over the journal's files, which are locked meanwhile.

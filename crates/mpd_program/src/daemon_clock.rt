@@ -45,6 +45,7 @@ impl<'a> DaemonClock<'a> {
             began: self.began_at,
             uptime,
             now: seconds_now(self.rt),
+            is_unread: false,
         }
     }
 }

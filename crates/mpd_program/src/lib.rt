@@ -34,11 +34,16 @@ pub mod tasks;
 mod told_listener;
 
 pub use arguments::Task;
+use client_session::OUTPUT_LIMIT;
 pub use config::{Config, ConfigError};
 pub use config_key::ConfigKey;
 pub use console::{ConsoleEnd, Ending, Status, run_console};
 pub use error_lines::{put_line, takes_line};
 pub use exit::Exit;
 pub use library::{plain_rules, rules_of};
+use machine_core::LONGEST_ANSWER;
 pub use serve_config::ServeConfig;
 pub use tasks::run_command_line;
+
+// What a session refuses as too long is just what isn't given out whole.
+const _: () = prove!(LONGEST_ANSWER == OUTPUT_LIMIT);

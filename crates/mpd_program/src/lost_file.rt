@@ -10,8 +10,8 @@ use crate::journal_head::{HEAD, generation_of, number_at};
 use std::fs;
 use std::io::ErrorKind;
 
-/// A file with so many records, or with more bytes of them than these and than its snapshot, isn't in use for long, unless the disk has no
-/// room: the next event makes a checkpoint to the other one.
+/// A file with so many records, in layout 3 with as many as a longer snapshot has KiB, or with more bytes of them than these and than its
+/// snapshot, isn't in use for long, unless the disk has no room: the next event makes a checkpoint to the other one.
 const MOST_RECORDS: u64 = 4_096;
 
 const MOST_BYTES: u64 = 4_194_304;
@@ -39,9 +39,13 @@ pub(crate) enum Lost {
 
 // Whether the next event makes a checkpoint to the other file.
 fn is_full(file: &JournalFile) -> bool {
-    let snapshot = number_at(&file.bytes, HEAD - 4).unwrap_or(0);
-    let most_bytes = u64::from(snapshot).max(MOST_BYTES);
-    file.records >= MOST_RECORDS || file.record_bytes > most_bytes
+    let snapshot = u64::from(number_at(&file.bytes, HEAD - 4).unwrap_or(0));
+    let most_records = match file.head() {
+        Some(head) if head.layout == 3 => MOST_RECORDS.max(snapshot / 1_024),
+        _ => MOST_RECORDS,
+    };
+    let most_bytes = snapshot.max(MOST_BYTES);
+    file.records >= most_records || file.record_bytes > most_bytes
 }
 
 /// What a file has lost that has fewer bytes than a head, by its other file.

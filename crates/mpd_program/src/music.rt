@@ -4,6 +4,7 @@ ghost use Rattle.std.specs.Prelude.{[]};
 use crate::calls::{CalledSource, Calls};
 use crate::error_lines::{ErrorLines, put_line};
 use crate::music_lines::MusicLines;
+use profile::Profile;
 use song_files::{FileFolder, FileStamp, Folder, FolderEntry, FolderFault};
 use std::alloc::{AllocError, Global};
 use std::fs::{self, File};
@@ -27,31 +28,40 @@ pub struct Music<'a> {
 
 impl<'a> Music<'a> {
     /// The songs below this path. Without `lines` a line waits until it is taken. Calls of the system for them, and for what is opened of
-    /// them, are counted.
+    /// them, are counted. In the wide profile names that are no UTF-8 are listed.
     pub fn new(
         rt: &'a HostRuntime,
+        profile: Profile,
         root: &str,
         lines: Option<ErrorLines>,
         calls: Calls,
     ) -> Result<Self, AllocError> {
-        Music::over(rt, root, Some(MusicLines::new(rt, lines)), calls)
+        let root = String::from_str(rt.alloc(), root)?;
+        Music::over(rt, profile, root, Some(MusicLines::new(rt, lines)), calls)
     }
 
     /// The same, of which nothing is told.
     pub fn silent(rt: &'a HostRuntime, root: &str, calls: Calls) -> Result<Self, AllocError> {
-        Music::over(rt, root, None, calls)
+        let root = String::from_str(rt.alloc(), root)?;
+        Music::over(rt, Profile::Wide, root, None, calls)
     }
 
     fn over(
         rt: &'a HostRuntime,
-        root: &str,
+        profile: Profile,
+        root: String,
         lines: Option<MusicLines<'a>>,
         calls: Calls,
     ) -> Result<Self, AllocError> {
+        let below = String::from_str(rt.alloc(), root.as_str())?;
+        let files = match profile {
+            Profile::Named => FileFolder::new(rt, below),
+            Profile::Wide => FileFolder::with_odd_names(rt, below),
+        };
         Ok(Music {
             rt,
-            root: String::from_str(rt.alloc(), root)?,
-            files: FileFolder::new(rt, String::from_str(rt.alloc(), root)?),
+            root,
+            files,
             lines,
             calls,
             unlisted: None,

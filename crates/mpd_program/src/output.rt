@@ -2,6 +2,7 @@
 ghost use Rattle.std.specs.Prelude.{◌≤◌, IfOk};
 ghost use Rattle.std.specs.Io.{WritesAtMost};
 
+use crate::calls::Calls;
 use crate::error_lines::keep_from_waiting;
 use crate::file_lock::{lock, lock_pipe};
 use crate::limited_files::room_at;
@@ -35,6 +36,8 @@ pub struct Output<'a> {
     // How many bytes a regular file may have.
     limit: u64,
     stop: StopFlag,
+    // The waits for a reader, where they are counted.
+    waits: Option<Calls>,
 }
 
 // What is written to.
@@ -85,6 +88,7 @@ impl<'a> Output<'a> {
             readiness,
             limit: longest_file(rt).unwrap_or(u64::MAX),
             stop,
+            waits: None,
         })
     }
 
@@ -107,8 +111,27 @@ impl<'a> Output<'a> {
         }
     }
 
+    /// Counts its waits for a reader from now on.
+    pub fn count(&mut self, waits: Calls) {
+        self.waits = Some(waits);
+    }
+
+    // A wait begins or ends.
+    fn turn(&self) {
+        if let Some(waits) = &self.waits {
+            waits.turn();
+        }
+    }
+
     // Waits until the output takes bytes.
     fn wait(&mut self) -> io::Result<()> {
+        self.turn();
+        let waited = self.wait_for_it();
+        self.turn();
+        waited
+    }
+
+    fn wait_for_it(&mut self) -> io::Result<()> {
         // The flag is looked at between two waits.
         for _ in 0..u64::MAX {
             if self.stop.is_set() {

@@ -13,6 +13,9 @@ const LARGE: u64 = 16_777_216;
 /// An opening that takes so many milliseconds has a line behind it, and one meanwhile.
 const SLOW: u64 = 1_000;
 
+/// Behind one that takes so many a checkpoint is made, so that the next one doesn't.
+const LONG: u64 = 5_000;
+
 /// So many seconds behind a line meanwhile there is another one.
 const PAUSE: u64 = 5;
 
@@ -40,22 +43,23 @@ impl<'a> Opening<'a> {
         }
     }
 
-    /// It is over. Of one that took long a line says so.
-    pub(crate) fn end<R: Clock>(&self, clock: &R) {
+    /// It is over. Of a slow one a line says so; whether it took so long that a checkpoint is wanted.
+    pub(crate) fn end<R: Clock>(&self, clock: &R) -> bool {
         let Some(begun) = self.begun else {
-            return;
+            return false;
         };
         let Ok(taken) = begun.elapsed(clock) else {
-            return;
+            return false;
         };
         if taken < Duration::from_millis(SLOW) {
-            return;
+            return false;
         }
         let (bytes, seconds) = (self.bytes, taken.as_secs());
         let tenths = taken.subsec_millis() / 100;
         info!(LoopLog::new(self.rt);
             "the journal was opened in {seconds}.{tenths} seconds, both files have {bytes} bytes"
         );
+        taken >= Duration::from_millis(LONG)
     }
 }
 

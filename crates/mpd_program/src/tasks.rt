@@ -368,7 +368,7 @@ fn console(rt: &HostRuntime, config: Config) -> Result<(), Exit> {
         b,
         locks: _locks,
     } = open_made_files(rt, journal_a.as_str(), journal_b.as_str())?;
-    let folder = Music::new(rt, music.as_str(), None, Calls::new(rt.alloc())?)?;
+    let folder = Music::new(rt, profile, music.as_str(), None, Calls::new(rt.alloc())?)?;
     let rules = rules_of(profile, forms, socket.is_some());
     let decoder = match socket {
         Some(socket) => Some(DaemonDecoder::new(rt, socket.as_str(), None)?),

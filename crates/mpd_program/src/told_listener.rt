@@ -13,12 +13,13 @@ const MOST_LINES: u32 = 10;
 
 const MINUTE: u64 = 60_000;
 
-/// The calls of the system that the player, the scan and the reader of pictures make.
+/// The calls of the system for the music that the player, the scan and the reader of pictures make, and the waits for the output.
 #[derive(Drop)]
 pub struct MusicCalls {
     pub player: CallWatch,
     pub scan: CallWatch,
     pub pictures: CallWatch,
+    pub output: CallWatch,
 }
 
 /// Listening sockets that say why a client can't be accepted: once, until no client waits any more. Whoever wants to connect waits
@@ -94,6 +95,9 @@ impl<'a> ToldListener<'a> {
                 );
             }
         }
+        if calls.output.is_late(now) && is_written(&mut self.lines, &mut self.standing, self.log) {
+            warn!(self.log; "nobody has read the output for ten seconds");
+        }
     }
 }
 
@@ -143,7 +147,11 @@ impl Listener<Socket> for ToldListener<'_> {
 
     fn clock(&mut self) -> Option<ClockTime> {
         match &self.clock {
-            Some(clock) => Some(clock.time()),
+            Some(clock) => {
+                let mut time = clock.time();
+                time.is_unread = self.calls.output.is_standing(self.now);
+                Some(time)
+            }
             None => None,
         }
     }

@@ -1,7 +1,8 @@
 // The journal at the beginning of a life.
-ghost use Rattle.std.specs.Prelude.{◌≡◌, ◌⊎◌, true, false, Ok, Err, IsSome, IfOk, IfErr, MatchResult};
+ghost use Rattle.std.specs.Prelude.{◌≡◌, ◌⊎◌, ◌+◌, true, false, Ok, Err, IsSome, IfOk, IfErr, MatchResult};
 ghost use Rattle.disk_model.specs.Later.{AreLater, HasFailed};
 ghost use Rattle.live_stage.specs.Found.{AllOpenNow};
+ghost use Rattle.live_stage.specs.Numbers.{most_work};
 ghost use Rattle.live_stage.specs.Turns.{IsBegun};
 ghost use Rattle.mpd_server.specs.declared.ending.ServeStatus.{ServeStatus};
 ghost use Rattle.mpd_server.specs.Ends.{IsRefusalOfStart};
@@ -35,6 +36,13 @@ impl<D: Disk> Opened<D> {
         ensures { result ≡ self.now.live.was_migrated }
     {
         self.live.was_migrated()
+    }
+
+    /// The records that were found took long to apply: once room is made for others, a checkpoint is.
+    pub fn count_as_much(&mut self)
+        ensures { self.new ≡ record self.old { live = record self.old.live { work = most_work + 1 } } }
+    {
+        self.live.count_as_much();
     }
 
     // The stage, and whether a disk failed before it was opened.

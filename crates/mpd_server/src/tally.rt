@@ -3,11 +3,14 @@ use crate::job_folder::{MAX_LISTINGS, MAX_OPENINGS, Visits};
 use crate::line_limit::TimedLimit;
 use as_wave::{FRONT_LEN, FileKind, describe};
 use log::{Level, Log, debug, info, log_enabled, warn};
-use song_db::{KnownSong, LibraryRules, MAX_ROWS, ScanOrder};
-use song_files::{FileStamp, Folder, FolderEntry, FolderFault, Source, read_exact};
+use song_db::{KnownSong, LibraryRules, MAX_FOLDERS, MAX_ROWS, MAX_URI_BYTES, ScanOrder, is_named};
+use song_files::{
+    FileStamp, Folder, FolderEntry, FolderFault, ODD, Source, has_control, read_exact,
+};
 use song_head::read_song;
 use stage_workers::{ScanFolder, Scanned};
 use std::alloc::{AllocError, Global};
+use std::fmt;
 use std::time::Clock;
 use wave_pcm::WaveError;
 
@@ -15,6 +18,9 @@ use wave_pcm::WaveError;
 const MOST_TOLD: u32 = 10;
 
 const TEN_SECONDS: u64 = 10_000;
+
+/// So many files that are left out for one reason are named without `debug`, in the wide profile.
+const MOST_NAMED: u64 = 10;
 
 /// What was found in the files that a job has read.
 #[derive(Clone, Copy, Debug)]
@@ -28,6 +34,10 @@ pub(crate) struct Tally {
     not_wave: u64,
     other_format: u64,
     broken: u64,
+    /// Files and folders whose names are no UTF-8 or have a control character, or whose paths are too long.
+    names: u64,
+    /// Files whose names have no song's ending.
+    others: u64,
     /// Folders and files that could not be read.
     folders: u64,
     files: u64,
@@ -43,6 +53,8 @@ impl Tally {
         not_wave: 0,
         other_format: 0,
         broken: 0,
+        names: 0,
+        others: 0,
         folders: 0,
         files: 0,
         is_full: false,
@@ -177,6 +189,45 @@ impl<F: Folder, R: Log> TalliedFolder<'_, F, R> {
         }
     }
 
+    // Whether a file is named that is one of so many left out for its reason, though `debug` isn't on.
+    fn is_told(&self, count: u64) -> bool {
+        self.rules.keeps_stamps && count <= MOST_NAMED && !log_enabled!(self.rt; Level::Debug)
+    }
+
+    // Notes what of a folder isn't looked at, for its name or its path.
+    fn note_names(&mut self, path: &str, entries: &[FolderEntry]) {
+        if !self.rules.keeps_stamps {
+            return;
+        }
+        let mut last = "";
+        for entry in entries {
+            let name = entry.name.as_str();
+            // A link that leads nowhere is listed twice.
+            if name == last {
+                continue;
+            }
+            last = name;
+            if let Some(why) = fault_of_name(name) {
+                self.note_name(path, name, why);
+            } else if !entry.is_folder && !is_named(self.rules.endings, name.as_bytes()) {
+                self.tally.others = self.tally.others.saturating_add(1);
+            } else if let Some(why) = fault_of_path(path, entry) {
+                self.note_name(path, name, why);
+            }
+        }
+    }
+
+    fn note_name(&mut self, path: &str, name: &str, why: &str) {
+        self.tally.names = self.tally.names.saturating_add(1);
+        let slash = if path.is_empty() { "" } else { "/" };
+        let shown = ShownName(name);
+        if self.is_told(self.tally.names) {
+            info!(self.rt; "left out: {path}{slash}{shown}: {why}");
+        } else {
+            debug!(self.rt; "left out: {path}{slash}{shown}: {why}");
+        }
+    }
+
     // A file was read that is no song.
     fn note_refusal<S: Source>(&mut self, path: &str, source: &mut S, refusal: WaveError) {
         match refusal {
@@ -193,6 +244,14 @@ impl<F: Folder, R: Log> TalliedFolder<'_, F, R> {
                 self.tally.other_format = self.tally.other_format.saturating_add(1);
             }
             _ => self.tally.broken = self.tally.broken.saturating_add(1),
+        }
+        let count = match refusal {
+            WaveError::NotWave => self.tally.not_wave,
+            WaveError::Unsupported { .. } => self.tally.other_format,
+            _ => self.tally.broken,
+        };
+        if self.is_told(count) {
+            info!(self.rt; "left out: {path}: {refusal}{}", beside(refusal));
         }
         if !log_enabled!(self.rt; Level::Debug) {
             return;
@@ -269,6 +328,8 @@ impl<F: Folder, R: Log> TalliedFolder<'_, F, R> {
             not_wave,
             other_format,
             broken,
+            names,
+            others,
             folders,
             files,
             is_full: _,
@@ -276,10 +337,17 @@ impl<F: Folder, R: Log> TalliedFolder<'_, F, R> {
         let found = opened.saturating_sub(known);
         let new = found.min((MAX_ROWS as u64).saturating_sub(before));
         let unread = before.saturating_sub(known).saturating_sub(kept);
-        let songs = opened.saturating_add(unread.saturating_sub(gone as u64));
+        let unchanged = unread.saturating_sub(gone as u64);
+        let songs = opened.saturating_add(unchanged);
         let hint = self.hint(not_wave.saturating_add(other_format).saturating_add(broken));
+        let by_names = ByNames(names);
+        let further = Further {
+            is_told: self.rules.keeps_stamps,
+            unchanged,
+            others,
+        };
         info!(self.rt;
-            "update {job}: {songs} songs, {new} of them new, {changed} changed, {gone} gone; left out: {not_wave} not WAVE, {other_format} of another format, {broken} broken{hint}; not read: {folders} folders, {files} files"
+            "update {job}: {songs} songs, {new} of them new, {changed} changed, {gone} gone; left out: {not_wave} not WAVE, {other_format} of another format, {broken} broken{by_names}{hint}; not read: {folders} folders, {files} files{further}"
         );
         self.tell_limits(job, found.saturating_sub(new));
     }
@@ -339,8 +407,10 @@ impl<F: Folder, R: Log> Folder for TalliedFolder<'_, F, R> {
             Ok(()) => self.files.list(alloc, path),
             Err(fault) => Err(self.note_full(fault)),
         };
-        if matches!(listed, Err(FolderFault::Source)) {
-            self.note_folder(alloc, path);
+        match &listed {
+            Ok(Some(entries)) => self.note_names(path, entries),
+            Err(FolderFault::Source) => self.note_folder(alloc, path),
+            _ => {}
         }
         listed
     }
@@ -393,6 +463,90 @@ impl<F: Folder, R: Log + Clock> ScanFolder for TalliedFolder<'_, F, R> {
             }
         }
     }
+}
+
+// A name that no song has, without what would break a line.
+#[derive(Clone, Copy)]
+struct ShownName<'a>(&'a str);
+
+impl fmt::Display for ShownName<'_> {
+    fn fmt<W: fmt::Write>(&self, f: &mut fmt::Formatter<W>) -> fmt::Result {
+        for sign in self.0.chars() {
+            if sign == ODD {
+                continue;
+            }
+            if sign.is_control() {
+                write!(f, "\\x{}{}", digit(sign, 16), digit(sign, 1))?;
+            } else {
+                write!(f, "{sign}")?;
+            }
+        }
+        Ok(())
+    }
+}
+
+// A digit of a control character's number, which has two of them to the base 16.
+fn digit(sign: char, place: u32) -> char {
+    char::from_digit(u32::from(sign) / place.max(1) % 16, 16).unwrap_or('?')
+}
+
+// How many were left out by their names, where any were.
+#[derive(Clone, Copy)]
+struct ByNames(u64);
+
+impl fmt::Display for ByNames {
+    fn fmt<W: fmt::Write>(&self, f: &mut fmt::Formatter<W>) -> fmt::Result {
+        if self.0 == 0 {
+            return Ok(());
+        }
+        write!(f, ", {} by their names", self.0)
+    }
+}
+
+// What else became of files, as the wide profile tells it.
+#[derive(Clone, Copy)]
+struct Further {
+    is_told: bool,
+    unchanged: u64,
+    others: u64,
+}
+
+impl fmt::Display for Further {
+    fn fmt<W: fmt::Write>(&self, f: &mut fmt::Formatter<W>) -> fmt::Result {
+        if !self.is_told {
+            return Ok(());
+        }
+        write!(
+            f,
+            "; {} unchanged, {} other files",
+            self.unchanged, self.others
+        )
+    }
+}
+
+// Why no song can have a name, if none can.
+fn fault_of_name(name: &str) -> Option<&'static str> {
+    if name.starts_with(ODD) {
+        return Some("its name is no UTF-8");
+    }
+    if has_control(name) {
+        return Some("its name has a control character");
+    }
+    None
+}
+
+// Why no song is looked for at, or below, what a folder lists, though its name may be one's.
+fn fault_of_path(path: &str, entry: &FolderEntry) -> Option<&'static str> {
+    let slash = usize::from(!path.is_empty());
+    let len = path.len().saturating_add(entry.name.len());
+    if len.saturating_add(slash) > MAX_URI_BYTES {
+        return Some("its path has more than 1,024 bytes");
+    }
+    let slashes = path.as_bytes().iter().filter(|b| **b == b'/').count();
+    if entry.is_folder && slashes.saturating_add(slash) >= MAX_FOLDERS {
+        return Some("32 folders stand over it");
+    }
+    None
 }
 
 // What a file is by its front, where that says more than its refusal does.

@@ -7,10 +7,10 @@ use Rattle.std.specs.String.{string_bytes}
 use Rattle.std.proofs.lemmas.Bool.{and_parts, false≢true}
 use Rattle.std.proofs.lemmas.Slice.Eq.{bytes_eq-Decides}
 use Rattle.song_files.specs.Folder.{File}
-use Rattle.covers.specs.Asked.{AskedPicture}
+use Rattle.covers.specs.Asked.{AskedPicture, same_kind}
 use Rattle.covers.specs.declared.kind.PictureKind.{PictureKind}
 use Rattle.covers.specs.declared.kind.PictureKind.TheVariants.{Album, Inside}
-use Rattle.picture_reader.specs.Kept.{is_asked, same_kind, AreOpen, AreSteady, IsChosen, IsKept, IsKeptAs}
+use Rattle.picture_reader.specs.Kept.{is_asked, AreOpen, AreSteady, IsChosen, IsKept, IsKeptAs}
 use Rattle.picture_reader.specs.declared.kept.KeptPicture.{KeptPicture}
 use Rattle.picture_reader.proofs.KeptLists.{one_of_all, all_removed}
 

@@ -1,14 +1,12 @@
 -- The pictures that stay open between two questions, each for a client.
-use Rattle.std.specs.Prelude.{◌≡◌, ℕ, ◌+◌, ◌-◌, ◌==◌, ◌&&◌, not, nat_lt, Bool, true, false, List, [], ◌∷◌, ◌++◌, length, drop, filter}
+use Rattle.std.specs.Prelude.{◌≡◌, ℕ, ◌+◌, ◌-◌, ◌==◌, ◌&&◌, not, nat_lt, Bool, false, List, [], ◌∷◌, ◌++◌, length, drop, filter}
 use Rattle.std.specs.Prelude.{Option, Some, None, IfSome}
 use Rattle.std.specs.List.{All, find}
 use Rattle.std.specs.Option.{option_map_or}
 use Rattle.std.specs.Str.{bytes_eq}
 use Rattle.std.specs.String.{string_bytes}
 use Rattle.song_files.specs.Folder.{File}
-use Rattle.covers.specs.Asked.{AskedPicture}
-use Rattle.covers.specs.declared.kind.PictureKind.{PictureKind}
-use Rattle.covers.specs.declared.kind.PictureKind.TheVariants.{Album, Inside}
+use Rattle.covers.specs.Asked.{AskedPicture, same_kind}
 use Rattle.picture_reader.specs.Limits.{MAX_OPEN}
 use Rattle.picture_reader.specs.Open.{IsOpenOf}
 use Rattle.picture_reader.specs.Pictures.{IsPictureOf}
@@ -16,12 +14,6 @@ use Rattle.picture_reader.specs.declared.kept.KeptPicture.{KeptPicture}
 
 abbrev pub is_of : {S : Type 0} → ℕ → KeptPicture S → Bool
 is_of client kept = kept.client == client
-
-abbrev pub same_kind : PictureKind → PictureKind → Bool
-same_kind Album Album = true
-same_kind Album Inside = false
-same_kind Inside Album = false
-same_kind Inside Inside = true
 
 -- it is the picture that is asked for
 abbrev pub is_asked : {S : Type 0} → AskedPicture → KeptPicture S → Bool

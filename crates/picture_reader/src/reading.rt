@@ -4,7 +4,7 @@ ghost use Rattle.std.specs.List.{find, position_or_len, remove};
 ghost use Rattle.song_files.specs.Folder.{File};
 ghost use Rattle.covers.specs.Answers.{answer_in};
 ghost use Rattle.song_db.specs.SameFolder.{IsSameFolder};
-ghost use Rattle.picture_reader.specs.Kept.{goes_on, is_asked, is_of, same_kind, AreOpen, AreSteady, IsChosen, IsChosenSteady, IsKept};
+ghost use Rattle.picture_reader.specs.Kept.{goes_on, is_asked, is_of, AreOpen, AreSteady, IsChosen, IsChosenSteady, IsKept};
 ghost use Rattle.picture_reader.specs.Open.{held, HasRoom, IsWhole};
 ghost use Rattle.picture_reader.specs.Paths.{is_path};
 ghost use Rattle.picture_reader.specs.Pictures.{IsAnswer, IsTold};
@@ -20,22 +20,11 @@ use song_db::is_uri;
 use song_files::{Folder, Source};
 use std::alloc::Global;
 
-fn is_same_kind(kind: PictureKind, other: PictureKind) -> bool
-    ensures { result ≡ same_kind kind other }
-{
-    match (kind, other) {
-        (PictureKind::Album, PictureKind::Album) | (PictureKind::Inside, PictureKind::Inside) => {
-            true
-        }
-        _ => false,
-    }
-}
-
 // Whether a picture is the one that is asked for.
 fn is_asked<S>(kept: &KeptPicture<S>, ask: &PictureAsk) -> bool
     ensures { result ≡ is_asked ask.now kept.now }
 {
-    is_same_kind(kept.kind, ask.kind) && kept.uri.as_str() == ask.uri.as_str()
+    kept.kind.is(ask.kind) && kept.uri.as_str() == ask.uri.as_str()
 }
 
 // Whether more of the picture is left behind what was told.

@@ -1,10 +1,11 @@
 -- What a crash leaves while zero bytes are put behind a file.
 use Rattle.std.proofs.Common.{◌≡◌, inl, inr, ℕ, ◌+◌, ◌<◌, List, [], ◌∷◌, ◌++◌, length, length-append, take, drop, append_assoc}
 use Rattle.std.proofs.Common.{Bool, true, false, Option, Some, arith, refl, sym, ap, subst, ◌∙◌}
-use Rattle.std.proofs.lemmas.List.{append-nil, take_at, take-append-drop}
+use Rattle.std.proofs.lemmas.List.{append-nil, length-take, take_at, take-append-drop}
+use Rattle.disk_model.specs.Faults.{HasGrown}
 use Rattle.disk_model.specs.History.{Change, Synced}
 use Rattle.disk_model.specs.Images.{window, settled, IsImage}
-use Rattle.disk_model.specs.Later.{AreLater, IsLater}
+use Rattle.disk_model.specs.Later.{AreLater, HasFailed, IsLater}
 use Rattle.disk_model.specs.Lengthened.{IsBegunBehind, IsLengthened}
 use Rattle.disk_model.specs.Moments.{AllSince}
 use Rattle.disk_model.proofs.BehindLaws.{KeepsBefore, behind_since}
@@ -18,7 +19,7 @@ use Rattle.play_journal.specs.JournalState.{at_place, content_in, IsInUse, IsKep
 use Rattle.play_journal.specs.Laying.{IsSameOrShut}
 use Rattle.play_journal.specs.Pair.{AllPairsSince, IsBelow, found}
 use Rattle.play_journal.proofs.CutLaws.{BeginsWith}
-use Rattle.play_journal.proofs.InUseLaws.{content-file}
+use Rattle.play_journal.proofs.InUseLaws.{content-file, still_file}
 use Rattle.play_journal.proofs.LayLaws.{still_shut}
 use Rattle.play_journal.proofs.PairLaws.{found_first, found_second}
 use Rattle.play_journal.proofs.PlaceLaws.{added_since, other_since}
@@ -80,6 +81,18 @@ module _ (here there : List ℕ) (end layout generation base count : ℕ) (used 
     other = used.other;
   }
 
+  -- the bytes up to its closing gate, and any others behind them, are the same file
+  pub cut_file : (x : List ℕ) → BeginsWith (take (end + 1) here) x → IsFile x used.file
+  cut_file x begins =
+      let gate = used.is_file.gate in
+      let front : take (end + 1) here ≡ spelling used.file ++ gate ∷ [] =
+      ap (λ (l : List ℕ). take (end + 1) l)
+      (used.is_file.spelled ∙ sym (append_assoc (spelling used.file) (gate ∷ []) used.is_file.free))
+      ∙ take_at (spelling used.file ++ gate ∷ []) used.is_file.free (end + 1)
+      (omega (arith, used.gate, length-append (spelling used.file) (gate ∷ []))) in
+      still_file here there end layout generation base count used x gate begins.0 used.is_file.closed
+      (begins.1 ∙ ap (λ (l : List ℕ). l ++ begins.0) front ∙ append_assoc (spelling used.file) (gate ∷ []) begins.0)
+
 -- a file that is shut stays shut
 pub shut_begins : (s x : List ℕ) → IsClosed s → BeginsWith s x → IsShut x
 shut_begins s x closed begins = still_shut s x closed (record {
@@ -123,25 +136,76 @@ module _ {D : Type 0} (content : D → List ℕ) (history : D → List Change) (
     here_image : (x : List ℕ) → BeginsWith (content here) x → IsFile x kept.in_use.file
     here_image = longer_file (content here) (content there) end layout generation base count kept.in_use
 
-    pub ahead_since : AllSince (BeginsWith (content here)) (history new) (length (history here))
+    -- it is the same file at each moment
+    pub file_since : AllSince (λ x. IsFile x kept.in_use.file) (history new) (length (history here))
         → AllPairsSince (λ f. f ≡ Some (content_in (content here)))
         (history (at_place swapped new there)) (length (history (at_place swapped here there)))
         (history (at_place swapped there new)) (length (history (at_place swapped there here)))
-    ahead_since since = added_since history Says swapped here new there first second
+    file_since since = added_since history Says swapped here new there first second
       where
         first : AllPairsSince Says (history new) (length (history here)) (history there) (length (history there))
         first x y left right =
             let y_is : y ≡ content there = settled_only (content there) y (subst (λ w. IsImage w y) kept.there_settled
             (now_only (history there) y right)) in
             subst (λ (l : List ℕ). Says (found x l)) (sym y_is)
-            (found_first x (content there) kept.in_use.file (here_image x (since x left)) kept.in_use.other ∙ says_file)
+            (found_first x (content there) kept.in_use.file (since x left) kept.in_use.other ∙ says_file)
 
         second : AllPairsSince Says (history there) (length (history there)) (history new) (length (history here))
         second x y left right =
             let x_is : x ≡ content there = settled_only (content there) x (subst (λ w. IsImage w x) kept.there_settled
             (now_only (history there) x left)) in
             subst (λ (l : List ℕ). Says (found l y)) (sym x_is)
-            (found_second y (content there) kept.in_use.file (here_image y (since y right)) kept.in_use.other ∙ says_file)
+            (found_second y (content there) kept.in_use.file (since y right) kept.in_use.other ∙ says_file)
+
+    pub ahead_since : AllSince (BeginsWith (content here)) (history new) (length (history here))
+        → AllPairsSince (λ f. f ≡ Some (content_in (content here)))
+        (history (at_place swapped new there)) (length (history (at_place swapped here there)))
+        (history (at_place swapped there new)) (length (history (at_place swapped there here)))
+    ahead_since since = file_since (all_weaker (BeginsWith (content here)) (λ x. IsFile x kept.in_use.file) _ _ here_image since)
+
+    -- cut behind its closing gate
+    module _ (len : ℕ) (is : len ≡ end + 1) where
+      cut_image : (x : List ℕ) → BeginsWith (take len (content here)) x → IsFile x kept.in_use.file
+      cut_image x begins = cut_file (content here) (content there) end layout generation base count kept.in_use x
+          (subst (λ (n : ℕ). BeginsWith (take n (content here)) x) is begins)
+
+      pub cut_since : AllSince (BeginsWith (take len (content here))) (history new) (length (history here))
+          → AllPairsSince (λ f. f ≡ Some (content_in (content here)))
+          (history (at_place swapped new there)) (length (history (at_place swapped here there)))
+          (history (at_place swapped there new)) (length (history (at_place swapped there here)))
+      cut_since since =
+          file_since (all_weaker (BeginsWith (take len (content here))) (λ x. IsFile x kept.in_use.file) _ _ cut_image since)
+
+      module _ (cut : content new ≡ take len (content here)) where
+        cut_new : IsFile (content new) kept.in_use.file
+        cut_new = cut_image (content new) ([], cut ∙ sym (append-nil (take len (content here))))
+
+        pub cut_len : length (content new) ≡ end + 1
+        cut_len =
+            omega (arith, ap (λ (l : List ℕ). length l) cut, length-take len (content here), kept.in_use.ends, is)
+
+        pub cut_kept : window (history new) ≡ settled (content new)
+            → IsKept (content new) (content there) (history new) (history there) end layout generation base count
+        cut_kept is_settled = record {
+          here_settled = is_settled;
+          there_settled = kept.there_settled;
+          in_use = record {
+            file = kept.in_use.file;
+            is_file = cut_new;
+            ends = omega (arith, cut_len);
+            gate = kept.in_use.gate;
+            laid = kept.in_use.laid;
+            numbered = kept.in_use.numbered;
+            before = kept.in_use.before;
+            counted = kept.in_use.counted;
+            other = kept.in_use.other;
+          };
+        }
+
+        pub cut_content : content_in (content new) ≡ content_in (content here)
+        cut_content =
+            content-file (content new) kept.in_use.file cut_new
+            ∙ sym (content-file (content here) kept.in_use.file kept.in_use.is_file)
 
     module _ (len : ℕ) (long : IsLengthened len (content here) (content new) (history here) (history new)) where
       pub ahead_kept : IsKept (content new) (content there) (history new) (history there) end layout generation base count
@@ -206,3 +270,9 @@ pub later_there : {D : Type 0} (honest : D → Type 0) (history : D → List Cha
     (at_place swapped here new) (at_place swapped new here)
 later_there honest history faults true here there new later = record { a = later; b = later_begin honest history faults here }
 later_there honest history faults false here there new later = record { a = later_begin honest history faults here; b = later }
+
+-- a fault of the file in use is one of the two disks'
+pub failed_here : {D : Type 0} (faults : D → ℕ) (swapped : Bool) (here there new : D) → HasGrown (faults here) (faults new)
+    → HasFailed faults (at_place swapped here there) (at_place swapped there here) (at_place swapped new there) (at_place swapped there new)
+failed_here faults true here there new grown = inr grown
+failed_here faults false here there new grown = inl grown

@@ -63,7 +63,7 @@ fn bytes_of<D: Disk>(alloc: Global, disk: &mut D) -> Result<Vec<u8>, JournalErro
 }
 
 // Cuts a settled file to a length within it.
-fn cut_to<D: Disk>(disk: &mut D, len: u64) -> Result<(), JournalError>
+pub(crate) fn cut_to<D: Disk>(disk: &mut D, len: u64) -> Result<(), JournalError>
     ensures later { IsLater D.honest D.history D.faults disk.old disk.new }
     ensures any_moment { D.honest disk.old → window (D.history disk.old) ≡ settled (D.content disk.old) → len ≤ length (D.content disk.old)
         → AllSince (λ x. (rest : List _) × (x ≡ take len (D.content disk.old) ++ rest)) (D.history disk.new) (length (D.history disk.old)) }

@@ -1,7 +1,7 @@
 -- Marks that move through parts which are repeated, one part after the other.
 use Rattle.std.proofs.Common.{◌≡◌, ℕ, zero, suc, ◌+◌, ◌-◌, ◌*◌, ◌<◌, ◌≤◌, Bool, true, false, ◌||◌, List, ◌++◌, length, drop, refl}
 use Rattle.std.proofs.Common.{sym, ap, ◌∙◌, subst, append_assoc, length-append, arith}
-use Rattle.std.proofs.lemmas.List.{drop-drop, append-nil}
+use Rattle.std.proofs.lemmas.List.{drop-drop}
 use Rattle.std.proofs.Math.Nat.{suc-mul, add-mul}
 use Rattle.regular_expr.specs.declared.place.Here.{Here}
 use Rattle.regular_expr.specs.Marks.{ends, moved, through, through_some, all_moved}
@@ -18,24 +18,12 @@ one_less count at lt = omega arith
 none_left : (count at : ℕ) → count ≤ at → count - at ≡ 0
 none_left count at le = omega arith
 
-pub through_begins : (e : Bool → List Bool → Bool) (each count : ℕ) (r : Bool) (m : List Bool)
-    → through e each (count - 0) r m ≡ through e each count r m
-through_begins e each count r m = ap (λ (k : ℕ). through e each k r m) (whole_left count)
-
 pub through_goes_on : (e : Bool → List Bool → Bool) (each count at : ℕ) (r s : Bool) (m n : List Bool) (all : Bool)
     → at < count → s ≡ e r m → n ≡ drop each m → through e each (count - at) r m ≡ all → through e each (count - (at + 1)) s n ≡ all
 through_goes_on e each count at r s m n all lt es en h =
     let left = count - (at + 1) in
     ap (λ (x : Bool). through e each left x n) es ∙ ap (λ (x : List Bool). through e each left (e r m) x) en
     ∙ sym (ap (λ (k : ℕ). through e each k r m) (one_less count at lt)) ∙ h
-
-pub through_ends : (e : Bool → List Bool → Bool) (each count at : ℕ) (r : Bool) (m : List Bool) (all : Bool)
-    → count ≤ at → through e each (count - at) r m ≡ all → r ≡ all
-through_ends e each count at r m all le h = sym (ap (λ (k : ℕ). through e each k r m) (none_left count at le)) ∙ h
-
-pub some_begins : (e : Bool → List Bool → Bool) (each count : ℕ) (r : Bool) (m : List Bool)
-    → (false || through_some e each (count - 0) r m) ≡ through_some e each count r m
-some_begins e each count r m = ap (λ (k : ℕ). through_some e each k r m) (whole_left count)
 
 or_assoc : (a b c : Bool) → ((a || b) || c) ≡ (a || (b || c))
 or_assoc true b c = refl
@@ -51,14 +39,6 @@ some_goes_on e each count at f g r s m n all lt eg es en h =
     ∙ or_assoc f r (through_some e each left (e r m) (drop each m))
     ∙ sym (ap (λ (k : ℕ). f || through_some e each k r m) (one_less count at lt)) ∙ h
 
-pub some_ends : (e : Bool → List Bool → Bool) (each count at : ℕ) (f r : Bool) (m : List Bool) (all : Bool)
-    → count ≤ at → (f || through_some e each (count - at) r m) ≡ all → (f || r) ≡ all
-some_ends e each count at f r m all le h = sym (ap (λ (k : ℕ). f || through_some e each k r m) (none_left count at le)) ∙ h
-
-pub moved_begins : (e : Bool → List Bool → Bool) (f : Bool → List Bool → List Bool) (each count : ℕ) (r : Bool) (m next : List Bool)
-    → next ++ all_moved e f each (count - 0) r m ≡ next ++ all_moved e f each count r m
-moved_begins e f each count r m next = ap (λ (k : ℕ). next ++ all_moved e f each k r m) (whole_left count)
-
 pub moved_goes_on : (e : Bool → List Bool → Bool) (f : Bool → List Bool → List Bool) (each count at : ℕ) (r s : Bool)
     (m n next more all : List Bool) → at < count → s ≡ e r m → n ≡ drop each m → more ≡ next ++ f r m
     → next ++ all_moved e f each (count - at) r m ≡ all → more ++ all_moved e f each (count - (at + 1)) s n ≡ all
@@ -70,11 +50,6 @@ moved_goes_on e f each count at r s m n next more all lt es en em h =
     ∙ append_assoc next (f r m) (all_moved e f each left (e r m) (drop each m))
     ∙ sym (ap (λ (k : ℕ). next ++ all_moved e f each k r m) (one_less count at lt)) ∙ h
 
-pub moved_ends : (e : Bool → List Bool → Bool) (f : Bool → List Bool → List Bool) (each count at : ℕ) (r : Bool) (m next all : List Bool)
-    → count ≤ at → next ++ all_moved e f each (count - at) r m ≡ all → next ≡ all
-moved_ends e f each count at r m next all le h =
-    sym (append-nil next) ∙ sym (ap (λ (k : ℕ). next ++ all_moved e f each k r m) (none_left count at le)) ∙ h
-
 -- nothing is left of no marks
 pub no_times : (each : ℕ) → 0 * each ≡ 0
 no_times each = omega arith
@@ -84,10 +59,6 @@ one_more n each =
     let one : suc n * each ≡ n * each + each = suc-mul n each in
     omega arith
 
--- the marks behind all of them
-pub drop_begins : (count each : ℕ) (m : List Bool) → drop ((count - 0) * each) m ≡ drop (count * each) m
-drop_begins count each m = ap (λ (k : ℕ). drop (k * each) m) (whole_left count)
-
 pub drop_goes_on : (count at each : ℕ) (m n all : List Bool) → at < count → n ≡ drop each m → drop ((count - at) * each) m ≡ all
     → drop ((count - (at + 1)) * each) n ≡ all
 drop_goes_on count at each m n all lt en h =
@@ -95,31 +66,12 @@ drop_goes_on count at each m n all lt en h =
     ap (λ (x : List Bool). drop (left * each) x) en ∙ drop-drop (left * each) each m
     ∙ sym (ap (λ (k : ℕ). drop k m) (ap (λ (k : ℕ). k * each) (one_less count at lt) ∙ one_more left each)) ∙ h
 
-pub drop_ends : (count at each : ℕ) (m all : List Bool) → count ≤ at → drop ((count - at) * each) m ≡ all → m ≡ all
-drop_ends count at each m all le h =
-    sym (ap (λ (k : ℕ). drop k m) (ap (λ (k : ℕ). k * each) (none_left count at le) ∙ no_times each)) ∙ h
-
--- room for the marks of those that are left
-pub room_begins : (count each taken : ℕ) → taken + count * each ≤ 512 → taken + (count - 0) * each ≤ 512
-room_begins count each taken h = subst (λ (k : ℕ). taken + k * each ≤ 512) (sym (whole_left count)) h
-
--- one of them fits, and the others behind it
-pub room_for_one : (count at each taken : ℕ) → at < count → taken + (count - at) * each ≤ 512 → taken + each ≤ 512
-room_for_one count at each taken lt h =
-    let some : (count - at) * each ≡ each + (count - (at + 1)) * each =
-    ap (λ (k : ℕ). k * each) (one_less count at lt) ∙ one_more (count - (at + 1)) each in
-    omega arith
-
 pub room_goes_on : (count at each taken more : ℕ) → at < count → more ≡ taken + each → taken + (count - at) * each ≤ 512
     → more + (count - (at + 1)) * each ≤ 512
 room_goes_on count at each taken more lt e h =
     let some : (count - at) * each ≡ each + (count - (at + 1)) * each =
     ap (λ (k : ℕ). k * each) (one_less count at lt) ∙ one_more (count - (at + 1)) each in
     omega arith
-
--- how many marks there are
-pub length_begins : (count each taken : ℕ) → taken + (count - 0) * each ≡ taken + count * each
-length_begins count each taken = ap (λ (k : ℕ). taken + k * each) (whole_left count)
 
 pub length_goes_on : (count at each taken more all : ℕ) → at < count → more ≡ taken + each → taken + (count - at) * each ≡ all
     → more + (count - (at + 1)) * each ≡ all

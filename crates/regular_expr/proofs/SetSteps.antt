@@ -13,11 +13,6 @@ ranges_begin text rest first made e same =
     ap (λ (r : List ByteRange). more_ranges (length text) r rest) same
     ∙ ap (λ (o : Option (List ByteRange × List ℕ)). o >>= λ x. more_ranges (length text) x.0 x.1) e
 
-pub ranges_missing : (text : List ℕ) → None ≡ ranges_at text → all_ranges text ≡ None
-unfolding all_ranges
-ranges_missing text e =
-    sym (ap (λ (o : Option (List ByteRange × List ℕ)). o >>= λ x. more_ranges (length text) x.0 x.1) e)
-
 closed : (x : Bool) (ranges : List ByteRange) (text behind : List ℕ) (other : Option (List ByteRange × List ℕ))
     → Some behind ≡ (if x then Some text else None) → (if x then Some (ranges, text) else other) ≡ Some (ranges, behind)
 closed true ranges text behind other e =

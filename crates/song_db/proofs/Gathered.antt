@@ -83,7 +83,7 @@ has-with_text text (x ∷ xs) q = by_cases (texts text x) refl (has-with_text te
         rw same (sym (or_twice (is_eq (texts q text)) (has xs q)))
     by_cases Greater h rest = ap (λ b. is_eq (texts q x) || b) rest ∙ or_exchange (is_eq (texts q x)) (is_eq (texts q text)) (has xs q)
 
-has-with_texts : (known ts : List (List ℕ)) (q : List ℕ) → has (with_texts known ts) q ≡ (has ts q || has known q)
+pub has-with_texts : (known ts : List (List ℕ)) (q : List ℕ) → has (with_texts known ts) q ≡ (has ts q || has known q)
 has-with_texts known [] q = refl
 has-with_texts known (t ∷ ts) q = has-with_texts (with_text t known) ts q ∙ ap (λ b. has ts q || b) (has-with_text t known q)
     ∙ turned (has ts q) (is_eq (texts q t)) (has known q)
@@ -104,14 +104,14 @@ has-shown (t ∷ ts) q = ap (λ b. is_eq (texts q t.now) || b) (has-shown ts q)
 
 -- ---- their order
 
-with_texts_rising : (known ts : List (List ℕ)) → IsRising (λ t. t) known → IsRising (λ t. t) (with_texts known ts)
+pub with_texts_rising : (known ts : List (List ℕ)) → IsRising (λ t. t) known → IsRising (λ t. t) (with_texts known ts)
 with_texts_rising known [] rising = rising
 with_texts_rising known (t ∷ ts) rising = with_texts_rising (with_text t known) ts (rising_replaced (λ t. t) t (t ∷ []) known (record {
   keyed = (refl, tt);
   few = omega arith;
 }) rising)
 
-none_rising : IsRising (λ (t : List ℕ). t) []
+pub none_rising : IsRising (λ (t : List ℕ). t) []
 unfolding IsStrictlySortedBy
 none_rising = tt
 

@@ -11,7 +11,7 @@ mod Exchanged
 mod FolderRuns
 mod Folders
 mod Follows
-mod Gathered
+pub mod Gathered
 mod GroupMaps
 mod Groups
 mod HonestSteps
@@ -43,7 +43,7 @@ pub mod SixTexts
 mod Slashes
 mod TagCounts
 mod Taken
-mod TextSteps
+pub mod TextSteps
 mod LentOrder
 mod ToldBelow
 mod ToldFolders

@@ -96,36 +96,33 @@ pub all_good : (tags : List TagText) → All (λ (t : TagText). is_tag_text t.te
 all_good [] each = refl
 all_good (x ∷ xs) each = rw (each 0 x (omega arith)) (all_good xs (λ k d below. each (suc k) d (omega arith)))
 
--- ---- the values of one more row
+-- ---- what one more row tells
 
-values_suc : (rows : List Row) (i : ℕ) (row : Row) (tag : Tag) → i < length rows → row ≡ get_or rows i row
-    → flat_map (λ (r : Row). texts_of r.tags tag) (drop i rows)
-    ≡ texts_of row.tags tag ++ flat_map (λ (r : Row). texts_of r.tags tag) (drop (suc i) rows)
-values_suc [] i row tag within is = absurd (omega arith)
-values_suc (x ∷ xs) zero row tag within is =
-    ap (λ (r : Row). texts_of r.tags tag ++ flat_map (λ (r : Row). texts_of r.tags tag) xs) (sym is)
-values_suc (x ∷ xs) (suc i) row tag within is = values_suc xs i row tag (omega arith) is
+told_suc : (told : Row → List (List ℕ)) (rows : List Row) (i : ℕ) (row : Row) → i < length rows → row ≡ get_or rows i row
+    → flat_map told (drop i rows) ≡ told row ++ flat_map told (drop (suc i) rows)
+told_suc told [] i row within is = absurd (omega arith)
+told_suc told (x ∷ xs) zero row within is = ap (λ (r : Row). told r ++ flat_map told xs) (sym is)
+told_suc told (x ∷ xs) (suc i) row within is = told_suc told xs i row (omega arith) is
 
-pub values_more : (rows : List Row) (i : ℕ) (row : Row) (tag : Tag) (known more all : List (List ℕ)) → i < length rows
-    → row ≡ get_or rows i row → more ≡ with_texts known (texts_of row.tags tag)
-    → with_texts known (flat_map (λ (r : Row). texts_of r.tags tag) (drop i rows)) ≡ all
-    → with_texts more (flat_map (λ (r : Row). texts_of r.tags tag) (drop (i + 1) rows)) ≡ all
-values_more rows i row tag known more all within is taken so_far =
-    rw (add-one, taken) (sym (with_texts-append known (texts_of row.tags tag) (flat_map (λ (r : Row). texts_of r.tags tag)
-    (drop (suc i) rows))) ∙ sym (ap (with_texts known) (values_suc rows i row tag within is)) ∙ so_far)
+pub values_more : (told : Row → List (List ℕ)) (rows : List Row) (i : ℕ) (row : Row) (known more all : List (List ℕ)) → i < length rows
+    → row ≡ get_or rows i row → more ≡ with_texts known (told row) → with_texts known (flat_map told (drop i rows)) ≡ all
+    → with_texts more (flat_map told (drop (i + 1) rows)) ≡ all
+values_more told rows i row known more all within is taken so_far =
+    rw (add-one, taken) (sym (with_texts-append known (told row) (flat_map told (drop (suc i) rows)))
+    ∙ sym (ap (with_texts known) (told_suc told rows i row within is)) ∙ so_far)
 
-lent_suc : (rows : List (Bor Row)) (i : ℕ) (row : Bor Row) (tag : Tag) → i < length rows → row ≡ get_or rows i row
-    → flat_map (λ (r : Row). texts_of r.tags tag) (map (λ (r : Bor Row). r.now) (drop i rows))
-    ≡ texts_of row.now.tags tag ++ flat_map (λ (r : Row). texts_of r.tags tag) (map (λ (r : Bor Row). r.now) (drop (suc i) rows))
-lent_suc [] i row tag within is = absurd (omega arith)
-lent_suc (x ∷ xs) zero row tag within is = ap (λ (r : Bor Row). texts_of r.now.tags tag ++ flat_map (λ (r : Row). texts_of r.tags tag)
-    (map (λ (r : Bor Row). r.now) xs)) (sym is)
-lent_suc (x ∷ xs) (suc i) row tag within is = lent_suc xs i row tag (omega arith) is
+lent_suc : (told : Row → List (List ℕ)) (rows : List (Bor Row)) (i : ℕ) (row : Bor Row) → i < length rows → row ≡ get_or rows i row
+    → flat_map told (map (λ (r : Bor Row). r.now) (drop i rows))
+    ≡ told row.now ++ flat_map told (map (λ (r : Bor Row). r.now) (drop (suc i) rows))
+lent_suc told [] i row within is = absurd (omega arith)
+lent_suc told (x ∷ xs) zero row within is =
+    ap (λ (r : Bor Row). told r.now ++ flat_map told (map (λ (r : Bor Row). r.now) xs)) (sym is)
+lent_suc told (x ∷ xs) (suc i) row within is = lent_suc told xs i row (omega arith) is
 
-pub lent_more : (rows : List (Bor Row)) (i : ℕ) (row : Bor Row) (tag : Tag) (known more all : List (List ℕ)) → i < length rows
-    → row ≡ get_or rows i row → more ≡ with_texts known (texts_of row.now.tags tag)
-    → with_texts known (flat_map (λ (r : Row). texts_of r.tags tag) (map (λ (r : Bor Row). r.now) (drop i rows))) ≡ all
-    → with_texts more (flat_map (λ (r : Row). texts_of r.tags tag) (map (λ (r : Bor Row). r.now) (drop (i + 1) rows))) ≡ all
-lent_more rows i row tag known more all within is taken so_far =
-    rw (add-one, taken) (sym (with_texts-append known (texts_of row.now.tags tag) (flat_map (λ (r : Row). texts_of r.tags tag)
-    (map (λ (r : Bor Row). r.now) (drop (suc i) rows)))) ∙ sym (ap (with_texts known) (lent_suc rows i row tag within is)) ∙ so_far)
+pub lent_more : (told : Row → List (List ℕ)) (rows : List (Bor Row)) (i : ℕ) (row : Bor Row) (known more all : List (List ℕ))
+    → i < length rows → row ≡ get_or rows i row → more ≡ with_texts known (told row.now)
+    → with_texts known (flat_map told (map (λ (r : Bor Row). r.now) (drop i rows))) ≡ all
+    → with_texts more (flat_map told (map (λ (r : Bor Row). r.now) (drop (i + 1) rows))) ≡ all
+lent_more told rows i row known more all within is taken so_far =
+    rw (add-one, taken) (sym (with_texts-append known (told row.now) (flat_map told (map (λ (r : Bor Row). r.now) (drop (suc i) rows))))
+    ∙ sym (ap (with_texts known) (lent_suc told rows i row within is)) ∙ so_far)

@@ -45,7 +45,7 @@ pub use refusal::{PushError, SongDbError};
 pub use row::SongRow;
 pub use row_uri::RowUri;
 pub use rules::{Endings, LibraryRules};
-pub use scan::Scan;
+pub use scan::{Scan, is_named};
 pub use song_db::SongDb;
 pub use texts::Texts;
 pub use told_walk::ToldWalk;

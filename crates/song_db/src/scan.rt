@@ -19,6 +19,7 @@ use crate::scan::walk::FolderWalk;
 use song_files::Folder;
 use std::alloc::Global;
 use std::marker::Model;
+pub use visit::is_named;
 
 /// The scan of a job: it reads the songs of a folder, or one song, and tells the changes of their rows in batches.
 ///

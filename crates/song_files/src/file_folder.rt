@@ -3,6 +3,7 @@ ghost use Rattle.std.specs.Prelude.{[]};
 
 use crate::file_source::FileSource;
 use crate::known_files::KnownFiles;
+use crate::odd_names::odd_names;
 use crate::{FileStamp, Folder, FolderEntry, FolderFault};
 use std::alloc::{AllocError, Global};
 use std::fs::{self, Metadata};
@@ -27,6 +28,8 @@ pub struct FileFolder<'a> {
     root: String,
     // What the last listing had as files: they needn't be looked at again.
     known: Option<KnownFiles>,
+    // Whether names that are no UTF-8 are listed.
+    lists_odd: bool,
 }
 
 impl<'a> FileFolder<'a> {
@@ -36,6 +39,17 @@ impl<'a> FileFolder<'a> {
             rt,
             root,
             known: None,
+            lists_odd: false,
+        }
+    }
+
+    /// The same, in which a name that is no UTF-8 costs that file alone, and not its folder: it is listed escaped, behind `ODD`.
+    pub fn with_odd_names(rt: &'a HostRuntime, root: String) -> Self {
+        FileFolder {
+            rt,
+            root,
+            known: None,
+            lists_odd: true,
         }
     }
 
@@ -138,7 +152,7 @@ impl<'a> FileFolder<'a> {
     // What stands in a folder, unless it is a link upwards.
     fn entries(&self, alloc: Global, path: &str, place: &str) -> io::Result<Vec<FolderEntry>> {
         let folder = self.folder_at(alloc, path, place)?;
-        entries_of(self.rt, alloc, place, &folder)
+        entries_of(self.rt, alloc, place, &folder, self.lists_odd)
     }
 }
 
@@ -191,21 +205,38 @@ fn stamp_of(found: &Metadata) -> Option<FileStamp> {
     })
 }
 
-// What stands in a folder, which was this one before. A name that isn't UTF-8 is an error.
+// What stands in a folder, which was this one before. A name that isn't UTF-8 is an error, or is listed behind the others.
 fn entries_of(
     rt: &HostRuntime,
     alloc: Global,
     place: &str,
     folder: &Metadata,
+    lists_odd: bool,
 ) -> io::Result<Vec<FolderEntry>> {
     let mut entries = Vec::new(alloc);
+    let mut has_odd = false;
     for found in fs::read_dir(rt, place)? {
-        let found = found?;
+        let found = match found {
+            Err(error) if lists_odd && error.kind() == ErrorKind::InvalidFilename => {
+                has_odd = true;
+                continue;
+            }
+            found => found?,
+        };
         let kind = match kind_of(rt, found.path()) {
             Err(error) if is_absent(&error) => kind_of_removed(rt, place, folder)?,
             kind => kind?,
         };
         push_entries(alloc, &mut entries, found.file_name(), kind)?;
+    }
+    if has_odd {
+        for name in odd_names(rt, alloc, place)? {
+            entries.push(FolderEntry {
+                name,
+                is_folder: false,
+                stamp: None,
+            })?;
+        }
     }
     Ok(entries)
 }

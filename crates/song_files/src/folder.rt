@@ -12,7 +12,7 @@ use std::fmt;
 /// A folder could not be listed, or a file not opened.
 #[derive(Clone, Copy, Debug, PartialEq, Eq)]
 pub enum FolderFault {
-    /// The folder or the file could not be read, or a name in the folder isn't UTF-8.
+    /// The folder or the file could not be read, or a name in the folder isn't UTF-8, where such names aren't listed.
     Source,
     NoMemory,
 }

@@ -3,7 +3,7 @@
 pub use crate::player::play_once;
 pub use crate::scan::scan_once;
 pub use crate::under_lock::{
-    chunk_limit, closed, count_replaced, enter, enter_group, keeps, locked, made_room, ordered,
-    passed, put_off_due, rewound, running_job, scan_ordered, settled, taken, waits_for_room,
-    withheld,
+    chunk_limit, closed, count_replaced, count_songs, enter, enter_group, gave_room, keeps, locked,
+    made_room, ordered, passed, put_off_due, rewound, running_job, scan_ordered, settled, taken,
+    waits_for_room, withheld,
 };

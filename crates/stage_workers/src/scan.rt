@@ -167,7 +167,11 @@ fn end_behind_missing<D: Disk, C: Ledger, P: Ledger, S: Ledger, R: Wait + Clock,
         scanned.dropped = 0;
         return Ok((pass, scanned));
     }
+    let before = worker.stage.count_songs(worker.rt);
     let pass = drop_missing(worker, pass, job, missing)?;
+    // The song that is heard stays, and without room all do.
+    let behind = worker.stage.count_songs(worker.rt);
+    scanned.dropped = before.saturating_sub(behind);
     if worker.stage.is_closed(worker.rt) {
         return Ok((pass, scanned));
     }

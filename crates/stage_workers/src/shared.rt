@@ -86,8 +86,9 @@ impl<D: Disk, C: Ledger, P: Ledger, S: Ledger> SharedStage<D, C, P, S> {
         }
     }
 
-    /// Makes room on the disk for the records of what comes next (`laws::made_room`), and tells the stage where that has changed: one event
-    /// then, whose answer is handed over with all that was left in the outbox. Under the first profile nothing is done.
+    /// Makes room on the disk for the records of what comes next (`laws::made_room`, behind `laws::gave_room`), and tells the stage where
+    /// that has changed: one event then, whose answer is handed over with all that was left in the outbox. Under the first profile nothing
+    /// is done.
     ///
     /// It refuses as `made_room`, and then as `serve`.
     #[tactic(auto, using(crate::proofs::RoomLaws::refuses_unseen))]
@@ -108,6 +109,9 @@ impl<D: Disk, C: Ledger, P: Ledger, S: Ledger> SharedStage<D, C, P, S> {
     {
         let mut pass = pass;
         let mut guard = self.locked.lock(rt);
+        if let Err(error) = laws::gave_room(&mut *guard) {
+            return Err((error, pass));
+        }
         let is_there = match laws::made_room(&mut *guard, is_again) {
             Ok(Some(is_there)) => is_there,
             Ok(None) => return Ok((None, pass)),
@@ -254,6 +258,11 @@ impl<D: Disk, C: Ledger, P: Ledger, S: Ledger> SharedStage<D, C, P, S> {
     /// How many of these changes put another row in the place of a song's, by `laws::count_replaced`. It is no event.
     pub fn count_replaced(&self, rt: &impl Wait, changes: &[RowChange]) -> usize {
         laws::count_replaced(&*self.locked.lock(rt), changes)
+    }
+
+    /// How many songs there are, by `laws::count_songs`. It is no event.
+    pub fn count_songs(&self, rt: &impl Wait) -> usize {
+        laws::count_songs(&*self.locked.lock(rt))
     }
 
     /// How many songs this job missed, and of how many, where it dropped none because they were too many, by `laws::withheld`. It is no

@@ -1,12 +1,13 @@
 // What the calls of a shared stage do while they hold the lock.
-ghost use Rattle.std.specs.Prelude.{◌≡◌, ◌⊎◌, ◌↔◌, ◌+◌, ◌<◌, ◌≤◌, true, false, List, []};
+ghost use Rattle.std.specs.Prelude.{◌≡◌, ◌⊎◌, ◌↔◌, ◌+◌, ◌<◌, ◌≤◌, true, false, List, [], length};
 ghost use Rattle.std.specs.Prelude.{IsErr, IfOk, IfErr, OnErr, OnOk, Ok, None, MatchResult, option_map};
 ghost use Rattle.disk_model.specs.Later.{AreLater};
 ghost use Rattle.daemon_core.specs.Orders.{play_order, scan_order};
 ghost use Rattle.daemon_core.specs.Replay.{Entry};
 ghost use Rattle.daemon_core.specs.Seen.{view_of};
 ghost use Rattle.live_stage.specs.Group.{EndsThere, IsOfFront, history_in};
-ghost use Rattle.live_stage.specs.Turns.{LooksForRoom, RefusesToTell};
+ghost use Rattle.live_stage.specs.Turns.{CallsDisksAlone, HasBehind, HasNoneBehind, LooksForRoom, RefusesToTell, gives_room};
+ghost use Rattle.live_stage.specs.Turns.{room_enough};
 ghost use Rattle.stage_workers.specs.declared.kind.Kind.{Kind};
 ghost use Rattle.stage_workers.specs.PassState.{new_pass};
 ghost use Rattle.stage_workers.specs.Books.{events_of, left_of, with_pass};
@@ -211,6 +212,38 @@ pub fn put_off_due<D: Disk, C: Ledger, P: Ledger, S: Ledger>(locked: &mut Locked
     locked.live.put_off_due();
 }
 
+/// Gives back the room in the file in use, where a checkpoint is due or put off, so that its disk may have room for that. Under the first
+/// profile nothing is done.
+///
+/// It refuses `Broken`: from before, or by a disk fault now. It takes no memory.
+pub fn gave_room<D: Disk, C: Ledger, P: Ledger, S: Ledger>(
+    locked: &mut Locked<D, C, P, S>,
+) -> Result<(), StageError>
+    ensures named { locked.old.live.state.machine.saved.profile ≡ Named → (result ≡ Ok tt) × (locked.new ≡ locked.old) }
+    ensures same { OnOk result ((locked.new.live ≡ locked.old.live) ⊎ CallsDisksAlone locked.old.live locked.new.live) }
+    ensures given { D.honest locked.old.live.a → D.honest locked.old.live.b → locked.old.live.is_broken ≡ false
+        → gives_room locked.old.live.state.machine.saved.profile locked.old.live.file locked.old.live.work ≡ true
+        → OnOk result (HasNoneBehind D.content locked.old.live locked.new.live) }
+    ensures rest { IsRestKept locked.old locked.new }
+    ensures refuses { IfErr result (λ e. e ≡ StageError.Broken) }
+
+    // Stopped at any moment, a restart finds the same saved state; from then on, the stage's own.
+    ensures any_moment { D.honest locked.old.live.a → D.honest locked.old.live.b → locked.old.live.is_broken ≡ false
+        → FindsTheSame D.history locked.old.live locked.new.live }
+    ensures kept { FindsItsState D.honest D.history locked.new.live }
+    ensures sum { locked.new.live.numbers.event ≡ events_of locked.new.books }
+    ensures fault { TellsFaults D.honest D.faults locked.old.live locked.new.live result }
+    ensures disks { AreLater D.honest D.history D.faults locked.old.live.a locked.old.live.b locked.new.live.a locked.new.live.b }
+{
+    if let Profile::Named = locked.live.profile() {
+        return Ok(());
+    }
+    match locked.live.give_room() {
+        Ok(()) => Ok(()),
+        Err(error) => Err(refusal_of(error)),
+    }
+}
+
 /// Makes room for the records of what comes next, and says whether there is any, where the stage was told otherwise: that is to be told it
 /// then. Where it was told that there is none, it is looked for again only where that is asked for, once in five seconds by its clock. Under
 /// the first profile nothing is done.
@@ -278,6 +311,8 @@ pub fn waits_for_room<D: Disk, C: Ledger, P: Ledger, S: Ledger>(
         → locked.now.live.is_broken ≡ false → locked.now.is_closed ≡ false → result ≡ is_batch event.now }
     ensures room { D.honest locked.now.live.a → D.honest locked.now.live.b
         → FindsRoomFor D.content event.now result locked.now.live locked.now.is_closed }
+    ensures enough { D.honest locked.now.live.a → D.honest locked.now.live.b → is_due locked.now.live.file ≡ false
+        → lacks_room locked.now.live.state.machine ≡ false → HasBehind D.content room_enough locked.now.live → result ≡ false }
 {
     if locked.is_closed || locked.live.is_broken() || is_resume(event) {
         return false;
@@ -300,6 +335,8 @@ fn lacks_room_for<D: Disk, C: Ledger, P: Ledger, S: Ledger>(
     ensures full { lacks_room locked.now.live.state.machine ≡ true → result ≡ is_batch event.now }
     ensures room { D.honest locked.now.live.a → D.honest locked.now.live.b
         → FindsRoomFor D.content event.now result locked.now.live locked.now.is_closed }
+    ensures enough { D.honest locked.now.live.a → D.honest locked.now.live.b → locked.now.live.is_broken ≡ false
+        → lacks_room locked.now.live.state.machine ≡ false → HasBehind D.content room_enough locked.now.live → result ≡ false }
 {
     if !may_record(event) {
         return false;
@@ -425,6 +462,13 @@ pub fn count_replaced<D: Disk, C: Ledger, P: Ledger, S: Ledger>(
     ensures { result ≡ count_replaced locked.now.live.state.machine.saved.songs changes.now }
 {
     count_in(locked.live.songs(), changes)
+}
+
+/// How many songs there are. It takes no memory.
+pub fn count_songs<D: Disk, C: Ledger, P: Ledger, S: Ledger>(locked: &Locked<D, C, P, S>) -> usize
+    ensures { result ≡ length locked.now.live.state.machine.saved.songs }
+{
+    locked.live.songs().len()
 }
 
 /// How many songs this job missed, and of how many, where it dropped none because they were too many. It takes no memory.

@@ -13,72 +13,15 @@ use Rattle.std.specs.Str.{bytes_eq}
 use Rattle.std.specs.String.{string_cmp}
 use Rattle.std.specs.BTreeMap.Range.{entries_between, range_contains}
 use denote.Ref.{Bor}
-use Rattle.song_db.specs.Uri.{parts}
-use Rattle.song_db.specs.Place.{goes_on, is_below}
+use Rattle.song_db.specs.Place.{is_below}
 use Rattle.song_db.specs.declared.place.Place.TheVariants.{Root, At}
+use Rattle.song_db.proofs.Below.{begins_below, below-bytes}
 use Rattle.stickers.specs.ByName.{by_name, bytes_of_key}
 use Rattle.stickers.specs.Find.{found_in, is_found, passes, uri_and_value}
 use Rattle.stickers.specs.Named.{Values}
 use Rattle.stickers.specs.Sticker.{flat, in_song, sticker}
 use Rattle.stickers.specs.declared.find.ValueTest.{ValueTest}
 use Rattle.stickers.proofs.FoundSongs.{found_in-append, not_under}
-
--- the bytes of the folder, and then a slash
-abbrev pub begins_below : List ℕ → List ℕ → Bool
-begins_below [] [] = false
-begins_below [] (y ∷ ys) = nat_eq y 47
-begins_below (x ∷ xs) [] = false
-begins_below (x ∷ xs) (y ∷ ys) = nat_eq x y && begins_below xs ys
-
--- there is always a first part
-pub record HasFirst (path : List ℕ) : Type 0 where
-  pub first : List ℕ
-  pub others : List (List ℕ)
-  pub is : parts path ≡ first ∷ others
-
-has_first : (path : List ℕ) → HasFirst path
-has_first [] = record { first = []; others = []; is = refl }
-has_first (x ∷ xs) = by_cases (nat_eq x 47) refl (has_first xs)
-  where
-    by_cases : (b : Bool) → nat_eq x 47 ≡ b → HasFirst xs → HasFirst (x ∷ xs)
-    by_cases true slash rest = record { first = []; others = parts xs; is = rw slash refl }
-    by_cases false other rest = record { first = x ∷ rest.first; others = rest.others; is = rw (other, rest.is) refl }
-
-and_assoc : (a b c : Bool) → ((a && b) && c) ≡ (a && (b && c))
-and_assoc true b c = refl
-and_assoc false b c = refl
-
-below-bytes : (folder path : List ℕ) → is_below folder path ≡ begins_below folder path
-below-bytes [] [] = refl
-below-bytes [] (y ∷ ys) = by_cases (nat_eq y 47) refl (has_first ys)
-  where
-    by_cases : (b : Bool) → nat_eq y 47 ≡ b → HasFirst ys → is_below [] (y ∷ ys) ≡ nat_eq y 47
-    by_cases true slash rest = rw (slash, rest.is) refl
-    by_cases false other rest = rw (other, rest.is) refl
-below-bytes (x ∷ xs) [] = by_cases (nat_eq x 47) refl (has_first xs)
-  where
-    by_cases : (b : Bool) → nat_eq x 47 ≡ b → HasFirst xs → is_below (x ∷ xs) [] ≡ false
-    by_cases true slash rest = rw (slash, rest.is) refl
-    by_cases false other rest = rw (other, rest.is) refl
-below-bytes (x ∷ xs) (y ∷ ys) = by_cases (nat_eq x 47) refl (nat_eq y 47) refl (has_first xs) (has_first ys) (below-bytes xs ys)
-  where
-    by_cases : (a : Bool) → nat_eq x 47 ≡ a → (b : Bool) → nat_eq y 47 ≡ b → HasFirst xs → HasFirst ys
-        → is_below xs ys ≡ begins_below xs ys → is_below (x ∷ xs) (y ∷ ys) ≡ (nat_eq x y && begins_below xs ys)
-    by_cases true x_is true y_is front whole rest = let same : nat_eq x y ≡ true = grind (arith, nat_tests) in rw (x_is, y_is, same) rest
-    by_cases true x_is false y_is front whole rest = let apart : nat_eq x y ≡ false = grind (arith, nat_tests) in rw (
-      x_is,
-      y_is,
-      apart,
-      whole.is,
-    ) refl
-    by_cases false x_is true y_is front whole rest = let apart : nat_eq x y ≡ false = grind (arith, nat_tests) in rw (
-      x_is,
-      y_is,
-      apart,
-      front.is,
-    ) refl
-    by_cases false x_is false y_is front whole rest = rw (x_is, y_is, front.is, whole.is) (and_assoc (nat_eq x y) (bytes_eq
-        front.first whole.first) (goes_on front.others whole.others) ∙ ap (λ b. nat_eq x y && b) (rw (front.is, whole.is) at rest))
 
 abbrev pub texts : List ℕ → List ℕ → Ordering
 texts one other = slice_cmp nat_cmp one other

@@ -1,5 +1,5 @@
 -- The chunk that a head tells of.
-use Rattle.std.specs.Prelude.{ℕ, ◌+◌, ◌<◌, ◌≤◌, List, [], ◌∷◌, slice_range, Option, Some, None}
+use Rattle.std.specs.Prelude.{◌≡◌, length, ℕ, ◌+◌, ◌<◌, ◌≤◌, List, [], ◌∷◌, slice_range, Option, Some, None}
 use Rattle.wave_pcm.specs.Chunks.{Chunk, chunks_in}
 use Rattle.wave_pcm.specs.declared.chunks.ChunkHead.{ChunkHead}
 
@@ -12,8 +12,9 @@ abbrev pub chunks_from : List ℕ → ℕ → Option ChunkHead → List Chunk
 chunks_from file end None = []
 chunks_from file end (Some head) = chunk_at file head ∷ chunks_in file head.next end
 
--- the chunk stands between these places, and so does what follows
+-- its id has four bytes, and it stands between these places, as does what follows
 pub record IsWithin (at end : ℕ) (head : ChunkHead) : Type 0 where
+  pub id : length head.id ≡ 4
   pub after : at < head.first
   pub data_end : head.first + head.len ≤ end
   pub ahead : at < head.next

@@ -13,6 +13,7 @@ mod refusal;
 mod text;
 mod volume;
 
+pub use chunks::{ChunkHead, next_chunk};
 pub use format::MAX_RATE;
 pub use frames::{frame_range, read_frames};
 pub use head::{read_head, read_head_with_id3};

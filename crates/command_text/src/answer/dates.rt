@@ -1,19 +1,47 @@
 //! Times as dates in UTC.
-ghost use Rattle.std.specs.Prelude.{◌≡◌, ◌<◌};
+ghost use Rattle.std.specs.Prelude.{◌≡◌, ◌<◌, ◌++◌, codes};
 ghost use Rattle.command_text.specs.Answer.{Adds, pair};
-ghost use Rattle.command_text.specs.AnswerDates.{two_digits, time_text};
+ghost use Rattle.command_text.specs.AnswerDates.{clock_text, two_digits, time_text};
 
-use crate::answer::pairs::append;
+use crate::answer::pairs::write_joined;
 use filter_expr::{EPOCH, date_of};
 use itoa::Buffer;
 use no_memory::NoMemory;
 
-/// The digits of a number below 100.
-fn two_digits(number: u8) -> [u8; 2]
-    requires { number < 100 }
-    ensures { result ≡ two_digits number }
+/// A month and a day in it, as they stand behind the year.
+fn month_and_day(month: u8, day: u8) -> [u8; 6]
+    requires month { month < 100 }
+    requires day { day < 100 }
+    ensures { result ≡ codes "-" ++ (two_digits month ++ (codes "-" ++ two_digits day)) }
 {
-    [b'0' + number / 10, b'0' + number % 10]
+    [
+        b'-',
+        b'0' + month / 10,
+        b'0' + month % 10,
+        b'-',
+        b'0' + day / 10,
+        b'0' + day % 10,
+    ]
+}
+
+/// A second of a day, as it stands behind the day.
+fn clock(second: u32) -> [u8; 10]
+    requires { second < 86400 }
+    ensures { result ≡ codes "T" ++ (clock_text second ++ codes "Z") }
+{
+    let minute = second / 60;
+    [
+        b'T',
+        b'0' + (second / 3_600 / 10) as u8,
+        b'0' + (second / 3_600 % 10) as u8,
+        b':',
+        b'0' + (minute % 60 / 10) as u8,
+        b'0' + (minute % 60 % 10) as u8,
+        b':',
+        b'0' + (second % 60 / 10) as u8,
+        b'0' + (second % 60 % 10) as u8,
+        b'Z',
+    ]
 }
 
 /// Adds the line of a time in UTC, `key: YYYY-MM-DDThh:mm:ssZ`, in seconds since the beginning of 1970.
@@ -21,25 +49,12 @@ pub(crate) fn write_time(out: &mut Vec<u8>, key: &str, time: u64) -> Result<(), 
     ensures { Adds (pair key.now (time_text time)) result out.old out.new }
 {
     let date = date_of(EPOCH + time / 86_400);
-    let second = (time % 86_400) as u32;
     let mut year = Buffer::new();
-    append(
+    write_joined(
         out,
-        &[
-            key.as_bytes(),
-            b": ",
-            year.format(date.year).as_bytes(),
-            b"-",
-            &two_digits(date.month),
-            b"-",
-            &two_digits(date.day),
-            b"T",
-            &two_digits((second / 3_600) as u8),
-            b":",
-            &two_digits((second / 60 % 60) as u8),
-            b":",
-            &two_digits((second % 60) as u8),
-            b"Z\n",
-        ],
+        key,
+        year.format(date.year).as_bytes(),
+        &month_and_day(date.month, date.day),
+        &clock((time % 86_400) as u32),
     )
 }

@@ -36,6 +36,31 @@ pub fn write_pair(out: &mut Vec<u8>, key: &str, value: &[u8]) -> Result<(), NoMe
     add(out, b"\n")
 }
 
+/// Adds three parts.
+#[inline]
+fn add_three(out: &mut Vec<u8>, first: &[u8], second: &[u8], third: &[u8]) -> Result<(), NoMemory>
+    ensures { Adds (first.now ++ (second.now ++ third.now)) result out.old out.new }
+{
+    add(out, first)?;
+    add(out, second)?;
+    add(out, third)
+}
+
+/// Adds the line `key: value` of a value in three parts.
+#[inline]
+pub(crate) fn write_joined(
+    out: &mut Vec<u8>,
+    key: &str,
+    first: &[u8],
+    second: &[u8],
+    third: &[u8],
+) -> Result<(), NoMemory>
+    ensures { Adds (pair key.now (first.now ++ (second.now ++ third.now))) result out.old out.new }
+{
+    add_three(out, key.as_bytes(), b": ", first)?;
+    add_three(out, second, third, b"\n")
+}
+
 /// Adds the line `key: value` of a number in decimal digits.
 pub fn write_number<I: Integer>(out: &mut Vec<u8>, key: &str, value: I) -> Result<(), NoMemory>
     ensures { Adds (pair key.now (I.text value)) result out.old out.new }

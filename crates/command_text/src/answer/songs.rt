@@ -7,7 +7,7 @@ ghost use Rattle.command_text.specs.AnswerSongs.{tag_lines, song_lines, priority
 ghost use Rattle.command_text.specs.AnswerSongs.{place_lines, id_line, numbered_file};
 
 use crate::answer::dates::write_time;
-use crate::answer::pairs::{append, write_number, write_pair, write_position_and_id};
+use crate::answer::pairs::{append, write_joined, write_number, write_pair, write_position_and_id};
 use crate::answer::times::{write_exact_seconds, write_whole_seconds};
 use crate::tag_mask::TagMask;
 use filter_expr::known_time;
@@ -69,16 +69,12 @@ pub(crate) fn write_format(out: &mut Vec<u8>, key: &str, info: &WaveInfo) -> Res
 {
     let mut rate = Buffer::new();
     let mut channels = Buffer::new();
-    append(
+    write_joined(
         out,
-        &[
-            key.as_bytes(),
-            b": ",
-            rate.format(info.rate).as_bytes(),
-            b":16:",
-            channels.format(info.channels).as_bytes(),
-            b"\n",
-        ],
+        key,
+        rate.format(info.rate).as_bytes(),
+        b":16:",
+        channels.format(info.channels).as_bytes(),
     )
 }
 

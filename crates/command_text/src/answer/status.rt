@@ -1,10 +1,10 @@
 //! The lines of `status` (MPD protocol reference 0.23, "Querying MPD's status").
-ghost use Rattle.std.specs.Prelude.{◌≡◌, Some, option_copied};
+ghost use Rattle.std.specs.Prelude.{◌≡◌, Some, None, option_copied};
 ghost use Rattle.command_text.specs.Answer.{Adds};
 ghost use Rattle.command_text.specs.AnswerTimes.{milliseconds_at};
 ghost use Rattle.command_text.specs.AnswerStatus.{switch_text, single_text, state_text, setting_lines, current_lines, next_lines};
 ghost use Rattle.command_text.specs.AnswerStatus.{time_lines, playing_lines, played_lines, job_line, job_lines, error_lines};
-ghost use Rattle.command_text.specs.AnswerStatus.{status_lines, volume_line};
+ghost use Rattle.command_text.specs.AnswerStatus.{status_lines, told_errors, volume_line};
 ghost use Rattle.player_core.specs.declared.failure.PlayFailure.TheVariants.{Withheld};
 
 use crate::answer::pairs::{append, write_number, write_pair, write_position_and_id};
@@ -42,6 +42,8 @@ pub struct StatusLines<'a> {
     /// The job that updates the database.
     pub job: Option<u32>,
     pub error: Option<&'a PlayFailure>,
+    /// Whether nobody has read the output for a while, which is told where nothing has failed.
+    pub is_unread: bool,
 }
 
 fn switch_text(on: bool) -> &'static [u8]
@@ -193,8 +195,31 @@ fn write_withheld(out: &mut Vec<u8>, missing: usize, songs: usize) -> Result<(),
     )
 }
 
+fn write_unread(out: &mut Vec<u8>, is_unread: bool) -> Result<(), NoMemory>
+    ensures { Adds (told_errors None is_unread) result out.old out.new }
+{
+    if is_unread {
+        write_pair(out, "error", b"nobody reads the output")
+    } else {
+        Ok(())
+    }
+}
+
+fn write_told_error(
+    out: &mut Vec<u8>,
+    error: Option<&PlayFailure>,
+    is_unread: bool,
+) -> Result<(), NoMemory>
+    ensures { Adds (told_errors (option_copied error.entry) is_unread) result out.old out.new }
+{
+    match error {
+        Some(_) => write_error(out, error),
+        None => write_unread(out, is_unread),
+    }
+}
+
 /// Adds the lines of `status`: `volume` to `state`; `song` and `songid`, `nextsong` and `nextsongid` where there are such
-/// songs; `time`, `elapsed`, `duration` and `audio` in play and in pause; `updating_db` while a job runs; the `error`, if any.
+/// songs; `time`, `elapsed`, `duration` and `audio` in play and in pause; `updating_db` while a job runs; an `error`, if any.
 pub fn write_status(out: &mut Vec<u8>, status: &StatusLines<'_>) -> Result<(), NoMemory>
     ensures { Adds (status_lines status.now) result out.old out.new }
 {
@@ -206,5 +231,5 @@ pub fn write_status(out: &mut Vec<u8>, status: &StatusLines<'_>) -> Result<(), N
     write_next(out, status.next)?;
     write_playing(out, status.state, &status.current)?;
     write_running_job(out, status.job)?;
-    write_error(out, status.error)
+    write_told_error(out, status.error, status.is_unread)
 }

@@ -1,9 +1,9 @@
 //! Times: milliseconds from frames, and their texts in seconds.
-ghost use Rattle.std.specs.Prelude.{◌≡◌, ◌<◌, ◌++◌, codes};
+ghost use Rattle.std.specs.Prelude.{◌≡◌, ◌<◌, ◌++◌, ◌%◌, codes};
 ghost use Rattle.command_text.specs.Answer.{Adds, pair};
 ghost use Rattle.command_text.specs.AnswerTimes.{milliseconds_at, three_digits, whole_seconds, exact_seconds};
 
-use crate::answer::pairs::{append, write_number};
+use crate::answer::pairs::{append, write_joined, write_pair};
 use itoa::Buffer;
 use no_memory::NoMemory;
 
@@ -27,6 +27,29 @@ fn three_digits(number: u16) -> [u8; 3]
     ]
 }
 
+/// The digits of so many milliseconds in whole seconds, rounded down. Numbers of 64 bits are divided in a tenth of the time.
+fn seconds_in(buffer: &mut Buffer, milliseconds: u128) -> &str
+    ensures { result.now ≡ whole_seconds milliseconds }
+{
+    if milliseconds <= u128::from(u64::MAX) {
+        buffer.format(milliseconds as u64 / 1_000)
+    } else {
+        buffer.format(milliseconds / 1_000)
+    }
+}
+
+/// The thousandths of a second that stand behind the whole ones.
+fn thousandths(milliseconds: u128) -> u16
+    ensures value { result ≡ milliseconds % 1000 }
+    ensures bound { result < 1000 }
+{
+    if milliseconds <= u128::from(u64::MAX) {
+        (milliseconds as u64 % 1_000) as u16
+    } else {
+        (milliseconds % 1_000) as u16
+    }
+}
+
 /// Adds the line of a time in whole seconds, rounded down.
 pub(crate) fn write_whole_seconds(
     out: &mut Vec<u8>,
@@ -35,7 +58,8 @@ pub(crate) fn write_whole_seconds(
 ) -> Result<(), NoMemory>
     ensures { Adds (pair key.now (whole_seconds milliseconds)) result out.old out.new }
 {
-    write_number(out, key, milliseconds / 1_000)
+    let mut buffer = Buffer::new();
+    write_pair(out, key, seconds_in(&mut buffer, milliseconds).as_bytes())
 }
 
 /// Adds the line of a time in seconds with three decimals.
@@ -47,12 +71,9 @@ pub(crate) fn write_exact_seconds(
     ensures { Adds (pair key.now (exact_seconds milliseconds)) result out.old out.new }
 {
     let mut buffer = Buffer::new();
-    let seconds = buffer.format(milliseconds / 1_000).as_bytes();
-    let thousandths = three_digits((milliseconds % 1_000) as u16);
-    append(
-        out,
-        &[key.as_bytes(), b": ", seconds, b".", &thousandths, b"\n"],
-    )
+    let seconds = seconds_in(&mut buffer, milliseconds).as_bytes();
+    let thousandths = three_digits(thousandths(milliseconds));
+    write_joined(out, key, seconds, b".", &thousandths)
 }
 
 /// Adds the line `time: ELAPSED:TOTAL`, in whole seconds, rounded down.

@@ -16,7 +16,7 @@ ghost use Rattle.command_text.specs.Groups.{takes_groups};
 ghost use Rattle.command_text.specs.Stops.{Reads, ReadsAs};
 
 use crate::argument::{argument, number, target, window};
-use crate::command::groups::{MOST_ENDS, end_tag, last_tag, part_ends, takes_groups};
+use crate::command::groups::{end_tag, last_tag, part_ends, takes_groups};
 use crate::named::{filter_argument, playlist_name, sort_order, tag_argument};
 use crate::range::Window;
 use crate::refusal::CommandRefusal;
@@ -28,7 +28,7 @@ use crate::topic::FindingName;
 use filter_expr::{Case, Filter, LineWord, SortOrder, tag_named};
 use play_queue::Target;
 use profile::Profile;
-use song_files::Tag;
+use song_files::{TAG_COUNT, Tag};
 use std::alloc::Global;
 
 /// Which songs are looked for, in which order and which part of them.
@@ -606,7 +606,7 @@ fn groups<'w>(
     ensures { Reads result (groups_of profile tag words.now) }
 {
     let mut tags = TagList::new(alloc);
-    match part_ends(MOST_ENDS, TagMask::only(tag), words, &mut tags)? {
+    match part_ends(TAG_COUNT, TagMask::only(tag), words, &mut tags)? {
         Err(refusal) => Err(Stop::Refused(refusal)),
         Ok(end) => {
             let filter = filter_if_any(alloc, profile, &words[..end])?;

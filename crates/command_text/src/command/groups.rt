@@ -12,9 +12,6 @@ use profile::Profile;
 use song_files::Tag;
 use std::alloc::AllocError;
 
-/// How many ends are looked for: as many as there are tags.
-pub(crate) const MOST_ENDS: usize = 31;
-
 /// Whether the words end in `group TAG`.
 #[tactic(auto, unfolding(crate::specs::Groups::is_grouped))]
 fn is_grouped(words: &[LineWord<'_>]) -> bool

@@ -1,12 +1,13 @@
 // Reads the forms of `sticker`.
 ghost use Rattle.std.specs.Prelude.{◌≡◌};
 ghost use Rattle.command_text.specs.Stickers.{song, song_uri, song_sticker, get_of, set_of, delete_of, list_of, bound_of, find_of, form_of};
-ghost use Rattle.command_text.specs.Stickers.{stickers_of};
+ghost use Rattle.command_text.specs.Stickers.{sticker_of, stickers_of};
 
 use crate::argument::{argument, text};
 use crate::named::{sticker_name, sticker_value};
 use crate::refusal::CommandRefusal;
 use crate::text::Text;
+use crate::topic::StickersName;
 use filter_expr::LineWord;
 
 /// A form of `sticker`, each of a URI, which may be any text. Each name is one that a sticker may have.
@@ -36,9 +37,21 @@ pub enum ValueBound<'w> {
     Greater(Text<'w>),
 }
 
+/// The command of this name with these arguments.
+pub(crate) fn read<'w>(
+    name: StickersName,
+    words: &'w [LineWord<'_>],
+) -> Result<StickersCommand<'w>, CommandRefusal>
+    ensures { result ≡ stickers_of name words.now }
+{
+    match name {
+        StickersName::Sticker => sticker(words),
+    }
+}
+
 /// The form that the first argument names, with those behind it: two to five, and then as many as the form has.
-pub(crate) fn read<'w>(words: &'w [LineWord<'_>]) -> Result<StickersCommand<'w>, CommandRefusal>
-    ensures { result ≡ stickers_of words.now }
+fn sticker<'w>(words: &'w [LineWord<'_>]) -> Result<StickersCommand<'w>, CommandRefusal>
+    ensures { result ≡ sticker_of words.now }
 {
     match words {
         [] => Err(CommandRefusal::WrongCount),

@@ -13,6 +13,7 @@ ghost use Rattle.live_stage.specs.Turns.{LeavesAsIs, MakesNoCall, RefusesInOrder
 
 use super::Live;
 use crate::LiveError;
+use crate::due::work_of;
 use crate::recording::record_group;
 use crate::staging::{Begin, stage_events};
 use crate::turn::Turn;
@@ -143,6 +144,8 @@ impl<D: Disk> Live<D> {
             return Err(RefusedTurns { error, rest });
         }
         self.event += turns.len() as u64;
+        let work = self.work.saturating_add(work_of(turns.as_slice()));
+        self.work = work;
         Ok(Turns {
             turns,
             is_refused,
@@ -158,6 +161,7 @@ impl<D: Disk> Live<D> {
         Begin {
             event: self.event,
             last_record: self.last_record(),
+            layout: self.journal.layout(),
             snapshot_len: self.journal.snapshot_len(),
             records: self.journal.records_since_checkpoint(),
             bytes: self.journal.bytes_since_checkpoint(),

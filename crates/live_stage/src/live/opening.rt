@@ -146,6 +146,7 @@ impl<D: Disk> Live<D> {
             group,
             event: 0,
             migrated,
+            work: 0,
             put_off: false,
         })
     }

@@ -10,6 +10,7 @@ use Rattle.command_text.specs.AnswerSongs.{named_file_lines}
 use Rattle.command_text.specs.AnswerStatus.{job_line}
 use Rattle.command_text.specs.declared.refusal.CommandRefusal.{CommandRefusal}
 use Rattle.command_text.specs.declared.refusal.CommandRefusal.TheVariants.{NoSuchUri}
+use Rattle.command_text.specs.declared.tag_mask.TagMask.{TagMask}
 use Rattle.profile.specs.declared.profile.Profile.{Profile}
 use Rattle.profile.specs.declared.profile.Profile.TheVariants.{Named, Wide}
 use Rattle.song_db.specs.Duration.{total_of}
@@ -25,7 +26,8 @@ use Rattle.song_files.specs.declared.tag.Tag.TheVariants.{Artist, Album}
 use Rattle.state_codec.specs.SavedState.{SavedState}
 use Rattle.state_codec.specs.Spelling.{ops_bytes}
 use Rattle.machine_core.specs.Database.{all_below, asked, begins_job, begun, busy, files_in, folder_line, item_lines, last_given, may_wait}
-use Rattle.machine_core.specs.Database.{name_in, next_job, next_number, statistics, waits_for_job}
+use Rattle.machine_core.specs.Database.{content_lines, folder_info, name_in, next_job, next_number, root_lists, statistics, waits_for_job}
+use Rattle.machine_core.specs.Front.{front_of}
 use Rattle.machine_core.specs.Lent.{lent}
 use Rattle.machine_core.specs.Ordered.{walk_in}
 use Rattle.machine_core.specs.Meaning.{Meaning, Meant, begins, says, waits}
@@ -78,6 +80,15 @@ pub files_told : (songs all rows : List Row) (place : Place) → songs ≡ all �
 files_told songs all rows place same there are =
     sym (ap (λ (s : List Row). files_in s place) same) ∙ rw there (ap (λ (r : List Row). Ok (lines_by_name place r)) (sym are))
 
+-- what is told of a folder that is there
+pub below_told : (detail : Detail) (songs : List Row) (s : SavedState) (place : Place) → songs ≡ s.songs → is_folder songs place ≡ true
+    → all_below detail s place ≡ Ok (folder_line s.profile place ++ flat_map (item_lines detail) (walk_in s.profile s.songs place))
+below_told detail songs s place same there = rw (ap (λ (l : List Row). is_folder l place) (sym same) ∙ there) refl
+
+pub folder_told : (mask : TagMask) (songs : List Row) (s : SavedState) (place : Place) → songs ≡ s.songs → is_folder songs place ≡ true
+    → folder_info mask s place ≡ Ok (content_lines mask s.profile s.songs place ++ root_lists s.profile s.changed s.lists place)
+folder_told mask songs s place same there = rw (ap (λ (l : List Row). is_folder l place) (sym same) ∙ there) refl
+
 -- a job may not wait
 pub may_not_wait : (place : Option (List ℕ)) (all : Bool) (m : MachineState) (w : Work) (refusal : CommandRefusal)
     → may_wait m.saved.profile m.waiting ≡ false → refusal ≡ busy m.saved.profile
@@ -100,7 +111,7 @@ waits_told profile job lines m w y g = record {
   meaning = record { text = lines; ops = []; after = record m { waiting = m.waiting ++ job ∷ [] } };
   means = refl;
   stands = refl;
-  text = g.text ∙ ap (λ (x : Meaning). w.text.items ++ x.text) (sym is);
+  text = g.text ∙ ap (λ (x : Meaning). front_of (w.text.items ++ x.text)) (sym is);
   ops = subst (λ (x : Meaning). AddsOps x.ops (length (ops_bytes profile x.ops)) w y) (sym is) g.ops;
   room = g.room;
   keeps = g.keeps;
@@ -158,7 +169,7 @@ begins_told profile job lines m w y g = record {
   meaning = record { text = lines; ops = []; after = record m { job = job } };
   means = refl;
   stands = refl;
-  text = g.text ∙ ap (λ (x : Meaning). w.text.items ++ x.text) (sym is);
+  text = g.text ∙ ap (λ (x : Meaning). front_of (w.text.items ++ x.text)) (sym is);
   ops = subst (λ (x : Meaning). AddsOps x.ops (length (ops_bytes profile x.ops)) w y) (sym is) g.ops;
   room = g.room;
   keeps = g.keeps;

@@ -16,7 +16,7 @@ use Rattle.song_db.specs.Row.{Row}
 use Rattle.song_db.specs.Tagged.{count_tagged, has_tag}
 use Rattle.song_db.proofs.Rising.{texts}
 use Rattle.machine_core.specs.Finding.{or_empty, told_texts, told_values}
-use Rattle.machine_core.proofs.Finding.Distinct.{distinct_is, has, has-with_texts, none_rising, with_texts_rising}
+use Rattle.song_db.proofs.Gathered.{distinct_is, has, has-with_texts, none_rising, with_texts_rising}
 use Rattle.machine_core.proofs.Finding.Values.{texts_none, texts_some}
 
 abbrev own : Tag → Row → List (List ℕ)

@@ -27,7 +27,7 @@ use Rattle.machine_core.specs.Finding.{told_texts, told_values}
 use Rattle.machine_core.specs.Grouped.{AreRising, Group, Groups, entry_group, found_under, group_of, groups_of, is_under, numbers_or_none}
 use Rattle.machine_core.specs.Grouped.{numbers_under, rows_at, run_of, runs_told, tells, with_numbers}
 use Rattle.machine_core.specs.declared.commands.finding.groups.Run.{Run}
-use Rattle.machine_core.proofs.Finding.Distinct.{distinct_is, has}
+use Rattle.song_db.proofs.Gathered.{distinct_is, has}
 use Rattle.machine_core.proofs.Finding.Groups.{has_run, has_run-append, has_told_at, has_told_by, nums, nums-append, nums_told_by}
 use Rattle.machine_core.proofs.Finding.Groups.{with_numbers-append}
 

@@ -25,7 +25,7 @@ use Rattle.machine_core.specs.Finding.{group_counts, group_lines, rows_counted, 
 use Rattle.machine_core.specs.Grouped.{AreFrom, AreRising, Group, ends_with, group_of, groups_of, has_text, is_last, rows_at, run_of}
 use Rattle.machine_core.specs.Grouped.{runs_told, tells, texts_at, to_last, with_number, with_numbers, with_song, with_told}
 use Rattle.machine_core.specs.declared.commands.finding.groups.Run.{Run}
-use Rattle.machine_core.proofs.Finding.Values.{drop_all, texts_next}
+use Rattle.song_db.proofs.TextSteps.{no_texts_left, texts_next}
 
 -- ---- numbers behind others
 
@@ -268,7 +268,7 @@ pub song_done : (tags : List TagText) (at : ℕ) (tag : Tag) (n : ℕ) (known al
     → with_song (texts_of (drop at tags) tag) n known ≡ all → known ≡ all
 song_done tags at tag n known all past so_far =
     let none : with_song (texts_of (drop at tags) tag) n known ≡ known =
-    ap (λ (l : List TagText). with_song (texts_of l tag) n known) (drop_all tags at past) in
+    ap (λ (ts : List (List ℕ)). with_song ts n known) (no_texts_left tags at tag past) in
     sym none ∙ so_far
 
 module _ (profile : Profile) (tag : Tag) (rows : List Row) where

@@ -52,22 +52,6 @@ one_pushed old new begun op ops all rest is first before =
 abbrev pub step_of : Bool → ℕ
 step_of last_first = if last_first then 0 else 1
 
-pub goes_last_first : (last_first : Bool) (name : List ℕ) (from to n : ℕ) → last_first ≡ true → 0 < n
-    → song_moves last_first name from to n ≡ Move name (from + (n - 1)) (to + (n - 1))
-    ∷ song_moves last_first name (from + step_of last_first) (to + step_of last_first) (n - 1)
-goes_last_first false name from to n is some = absurd (cc)
-goes_last_first true name from to n is some =
-    let same_from : from ≡ from + 0 = omega arith in
-    let same_to : to ≡ to + 0 = omega arith in
-    last_goes name from to n some
-    ∙ (λ i. Move name (from + (n - 1)) (to + (n - 1)) ∷ song_moves true name (same_from i) (same_to i) (n - 1))
-
-pub goes_first_first : (last_first : Bool) (name : List ℕ) (from to n : ℕ) → last_first ≡ false → 0 < n
-    → song_moves last_first name from to n ≡ Move name from to
-    ∷ song_moves last_first name (from + step_of last_first) (to + step_of last_first) (n - 1)
-goes_first_first true name from to n is some = absurd (cc)
-goes_first_first false name from to n is some = first_goes name from to n some
-
 -- no song is left
 pub none_goes : (name : List ℕ) (moves : SongMoves) → moves.count ≡ 0 → moves_of name moves ≡ []
 none_goes name moves none = of moves.last_first moves.count none

@@ -9,6 +9,7 @@ use Rattle.state_codec.specs.Applied.{after_all}
 use Rattle.state_codec.specs.Spelling.{ops_bytes}
 use Rattle.state_codec.specs.declared.op.Op.{Op}
 use Rattle.state_codec.specs.declared.refusal.OpRefusal.{OpRefusal}
+use Rattle.machine_core.specs.Front.{front_of}
 use Rattle.machine_core.specs.Meaning.{Meant, does}
 use Rattle.machine_core.specs.Size.{within}
 use Rattle.machine_core.specs.State.{MachineState}
@@ -28,7 +29,7 @@ ops_went meant ops m after profile size work admitted done means stands under ro
   meaning = does [] ops m.player m;
   means = means;
   stands = stands;
-  text = ap (λ (t : Vec ℕ). t.items) (written ∙ same) ∙ sym (append-nil work.text.items);
+  text = ap front_of (ap (λ (t : Vec ℕ). t.items) (written ∙ same) ∙ sym (append-nil work.text.items));
   ops = record {
     ops = added ∙ ap (λ l. l ++ ops) nothing.ops;
     size = sized ∙ bytes ∙ ap (λ (p : Profile). work.size + length (ops_bytes p ops)) under;

@@ -17,6 +17,7 @@ use Rattle.state_codec.specs.Applied.{changes_nothing, refusal_of}
 use Rattle.state_codec.specs.Spelling.{ops_bytes}
 use Rattle.state_codec.specs.declared.op.Op.{Op}
 use Rattle.machine_core.specs.Followed.{followed}
+use Rattle.machine_core.specs.Front.{front_of}
 use Rattle.machine_core.specs.Meaning.{Meant, edited, edits, made, stands, unless_refused}
 use Rattle.machine_core.specs.Size.{max_request_bytes, within}
 use Rattle.machine_core.specs.State.{MachineState}
@@ -103,7 +104,7 @@ module _ (op : Op) (lines : List ℕ) (m n : MachineState) (mark : ℕ) (w x y d
         meaning = record went.meaning { text = lines };
         means = edits_tell op lines m ∙ ap (telling lines) went.means;
         stands = went.stands;
-        text = went.text ∙ ap (λ (t : List ℕ). y.text.items ++ t) silent ∙ append-nil y.text.items ∙ all;
+        text = went.text ∙ ap front_of (ap (λ (t : List ℕ). y.text.items ++ t) silent ∙ append-nil y.text.items ∙ all);
         ops = record {
           ops = went.ops.ops ∙ ap (λ (o : List Op). o ++ went.meaning.ops) (keeps.ops ∙ same_items);
           size = omega (arith, went.ops.size, keeps.size, size);

@@ -13,6 +13,7 @@ use Rattle.state_codec.specs.Spelling.{ops_bytes}
 use Rattle.state_codec.specs.declared.op.Op.{Op}
 use Rattle.state_codec.specs.declared.op.Op.TheVariants.{Queue}
 use Rattle.state_codec.specs.declared.op.queue_op.QueueOp.TheVariants.{Move, Shuffle}
+use Rattle.machine_core.specs.Front.{front_of}
 use Rattle.machine_core.specs.Meaning.{does}
 use Rattle.machine_core.specs.Queue.{bring, shuffle_ops, shuffles_around}
 use Rattle.machine_core.specs.State.{MachineState}
@@ -60,7 +61,7 @@ module _ (id at : ℕ) (span : Span) (m n : MachineState) (stands : n ≡ record
     meaning = does [] (shuffle_ops id span m.saved) m.player m;
     means = around_means id span m free several;
     stands = moved saved is;
-    text = ap (λ (t : Vec ℕ). t.items) (written ∙ same) ∙ sym (append-nil work.text.items);
+    text = ap front_of (ap (λ (t : Vec ℕ). t.items) (written ∙ same) ∙ sym (append-nil work.text.items));
     ops = record {
       ops = adds.ops ∙ (λ i. nothing.ops i ++ made i);
       size = adds.size ∙ (λ i. nothing.size i + length (ops_bytes (under i) (made i)));

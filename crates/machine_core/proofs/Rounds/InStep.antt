@@ -48,7 +48,7 @@ use Rattle.machine_core.specs.Meaning.{Meaning, does, edited, order_ops, refusal
 use Rattle.machine_core.specs.Queue.{bring, shuffle_ops}
 use Rattle.machine_core.specs.Reports.{fed_in, when_broken, when_ended, when_fed}
 use Rattle.machine_core.specs.Restart.{IsIdle, IsInStep, IsKeptPlace, IsSoundPlace, IsThere}
-use Rattle.machine_core.specs.Scanning.{ends_scan, finds, found_a_change, is_running, kept_changes, telling as telling_rows, when_found}
+use Rattle.machine_core.specs.Scanning.{ends_scan, finds, found_a_change, is_running, kept_changes, telling as telling_rows, when_found, spared}
 use Rattle.machine_core.specs.Scanning.{when_scanned}
 use Rattle.machine_core.specs.Sound.{is_in_queue, IsSoundMachine}
 use Rattle.machine_core.specs.State.{keeping, lacks_room, MachineState, settings_of, told_time}
@@ -493,11 +493,11 @@ found_follows : (job : ℕ) (changes : List RowChange) (m : MachineState) → Is
 found_follows job changes m holds step = of (is_running job m)
   where
     rows : Happening
-    rows = finds (telling_rows m.saved.songs (kept_changes m.saved.profile changes)) m
+    rows = finds (telling_rows m.saved.songs (kept_changes m.saved.profile (spared m changes))) m
 
     in_room : (b : Bool) → let h = cond b (nothing_happens m) rows in AllFollow m h.after
     in_room true = stays_follow m m holds step refl refl (λ id h. h)
-    in_room false = batch_follows (telling_rows m.saved.songs (kept_changes m.saved.profile changes)) m holds step
+    in_room false = batch_follows (telling_rows m.saved.songs (kept_changes m.saved.profile (spared m changes))) m holds step
 
     of : (b : Bool) → let h = cond b (if_room m rows) (nothing_happens m) in AllFollow m h.after
     of true = in_room (lacks_room m)

@@ -34,7 +34,7 @@ use Rattle.machine_core.specs.Keeping.{when_resumed, with_ops}
 use Rattle.machine_core.specs.Meaning.{Meaning, order_ops}
 use Rattle.machine_core.specs.Reports.{when_broken, when_ended, when_fed}
 use Rattle.machine_core.specs.Restart.{HasSoundPlace, IsIdle, IsInStep, IsKeptMachine, IsSoundPlace}
-use Rattle.machine_core.specs.Scanning.{ends_scan, finds, is_running, kept_changes, telling, when_found, when_scanned}
+use Rattle.machine_core.specs.Scanning.{ends_scan, finds, is_running, kept_changes, telling, when_found, when_scanned, spared}
 use Rattle.machine_core.specs.Sound.{IsSoundMachine}
 use Rattle.machine_core.specs.State.{MachineState, told_room, told_time}
 use Rattle.machine_core.specs.declared.clock.ClockTime.{ClockTime}
@@ -116,11 +116,11 @@ when_found_stay : (job : ℕ) (changes : List RowChange) (m : MachineState)
 when_found_stay job changes m = of (is_running job m)
   where
     rows : Happening
-    rows = finds (telling m.saved.songs (kept_changes m.saved.profile changes)) m
+    rows = finds (telling m.saved.songs (kept_changes m.saved.profile (spared m changes))) m
 
     in_room : (b : Bool) → let h = cond b (nothing_happens m) rows in StaysSo m.saved h.after.saved
     in_room true = (refl, refl)
-    in_room false = found_stay (telling m.saved.songs (kept_changes m.saved.profile changes)) m
+    in_room false = found_stay (telling m.saved.songs (kept_changes m.saved.profile (spared m changes))) m
 
     of : (b : Bool) → let h = cond b (if_room m rows) (nothing_happens m) in StaysSo m.saved h.after.saved
     of true = in_room (lacks_room m)
@@ -170,7 +170,7 @@ pub when_found_room : (job : ℕ) (changes : List RowChange) (m : MachineState) 
 when_found_room job changes m = of (is_running job m)
   where
     told : List RowChange
-    told = telling m.saved.songs (kept_changes m.saved.profile changes)
+    told = telling m.saved.songs (kept_changes m.saved.profile (spared m changes))
 
     rows_room : (told : List RowChange) → let h = finds told m in h.after.has_room ≡ m.has_room
     rows_room [] = refl

@@ -31,7 +31,8 @@ use Rattle.player_core.specs.Player.{PlayerState}
 use Rattle.machine_core.specs.Happening.{HasHappened, if_room, nothing_happens}
 use Rattle.machine_core.specs.Meaning.{order_ops}
 use Rattle.machine_core.specs.Size.{max_request_bytes}
-use Rattle.machine_core.specs.Scanning.{after_job, is_running, found_a_change, when_scanned, kept_changes, telling, changes_rows, finds, when_found}
+use Rattle.machine_core.specs.Scanning.{after_job, is_running, found_a_change, when_scanned, kept_changes, spared, telling, changes_rows}
+use Rattle.machine_core.specs.Scanning.{finds, when_found}
 use Rattle.machine_core.specs.State.{MachineState, lacks_room}
 use Rattle.machine_core.specs.declared.changed.Before.{Before}
 use Rattle.machine_core.specs.declared.happened.Happened.{Happened}
@@ -221,16 +222,16 @@ rows_changed changes m n before happened free state is ops told fits = record {
 
 -- what is found by a job that runs
 pub found_is : (job : ℕ) (changes : List RowChange) (m : MachineState) → is_running job m ≡ true → lacks_room m ≡ false
-    → when_found job changes m ≡ finds (telling m.saved.songs (kept_changes m.saved.profile changes)) m
+    → when_found job changes m ≡ finds (telling m.saved.songs (kept_changes m.saved.profile (spared m changes))) m
 found_is job changes m running room =
-    let rows = finds (telling m.saved.songs (kept_changes m.saved.profile changes)) m in
+    let rows = finds (telling m.saved.songs (kept_changes m.saved.profile (spared m changes))) m in
     ap (λ (b : Bool). cond b (if_room m rows) (nothing_happens m)) running ∙ ap (λ (b : Bool). cond b (nothing_happens m) rows) room
 
 -- and where there is no room nothing happens
 pub none_found : (job : ℕ) (changes : List RowChange) (m : MachineState) → is_running job m ≡ true → lacks_room m ≡ true
     → when_found job changes m ≡ nothing_happens m
 none_found job changes m running lacks =
-    let rows = finds (telling m.saved.songs (kept_changes m.saved.profile changes)) m in
+    let rows = finds (telling m.saved.songs (kept_changes m.saved.profile (spared m changes))) m in
     ap (λ (b : Bool). cond b (if_room m rows) (nothing_happens m)) running ∙ ap (λ (b : Bool). cond b (nothing_happens m) rows) lacks
 
 -- changes of which some tell something

@@ -1,5 +1,5 @@
 -- What one change of a batch does at its turn, and which changes tell something.
-use Rattle.std.proofs.Common.{◌≡◌, ℕ, ◌+◌, ◌-◌, ◌≤◌, Bool, true, false, cond, ◌||◌, List, [], ◌∷◌, ◌++◌, length, nat_lt}
+use Rattle.std.proofs.Common.{◌≡◌, ℕ, ◌+◌, ◌-◌, ◌≤◌, Bool, true, false, not, cond, ◌||◌, List, [], ◌∷◌, ◌++◌, length, nat_lt}
 use Rattle.std.proofs.Common.{Option, Some, None, is_some, refl, sym, ap, ◌∙◌, arith, append_assoc, if◌then◌else◌, filter}
 use Rattle.std.specs.List.{list_all}
 use Rattle.std.proofs.lemmas.Bool.{and_parts}
@@ -17,8 +17,9 @@ use Rattle.song_db.specs.declared.effect.Effect.TheVariants.{Nothing, Came, Repl
 use Rattle.state_codec.specs.Changes.{are_kept, is_kept_change}
 use Rattle.state_codec.proofs.BatchRows.{length_after, database_batch, batch_more, fit_more}
 use Rattle.state_codec.proofs.Unchanged.{none_changed}
-use Rattle.machine_core.specs.Scanning.{kept_changes, telling}
+use Rattle.machine_core.specs.Scanning.{drops_heard, kept_changes, spared, telling}
 use Rattle.machine_core.specs.ScanningRows.{AreTold, count_told}
+use Rattle.machine_core.specs.State.{MachineState}
 
 -- what changes a row isn't left out
 changes_fits : (e : Effect) → changes_a_row e ≡ true → is_left_out e ≡ false
@@ -184,3 +185,13 @@ kept_few profile (change ∷ changes) = of (is_kept_change profile change) (kept
 pub told_few : (profile : Profile) (rows : List Row) (changes : List RowChange)
     → length (telling rows (kept_changes profile changes)) ≤ length changes
 told_few profile rows changes = omega (arith, telling_few rows (kept_changes profile changes), kept_few profile changes)
+
+-- nor are those that are spared
+pub spared_few : (m : MachineState) (changes : List RowChange) → length (spared m changes) ≤ length changes
+spared_few m [] = omega arith
+spared_few m (change ∷ changes) = of (not (drops_heard m change)) (spared_few m changes)
+  where
+    of : (b : Bool) → length (spared m changes) ≤ length changes
+        → length (cond b (change ∷ spared m changes) (spared m changes)) ≤ length (change ∷ changes)
+    of true few = omega (arith, few)
+    of false few = omega (arith, few)

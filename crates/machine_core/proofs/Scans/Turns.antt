@@ -10,7 +10,7 @@ use Rattle.machine_core.specs.Happening.{Happening, if_room, nothing_happens}
 use Rattle.machine_core.specs.Keeping.{kept_event}
 use Rattle.machine_core.specs.Meaning.{Meaning, begins, must, waits}
 use Rattle.machine_core.specs.Scanning.{after_job, ends_scan, finds, is_running, job_behind, jobs_of}
-use Rattle.machine_core.specs.Scanning.{kept_changes, telling, when_found, when_scanned}
+use Rattle.machine_core.specs.Scanning.{kept_changes, spared, telling, when_found, when_scanned}
 use Rattle.machine_core.specs.State.{MachineState, lacks_room}
 use Rattle.machine_core.specs.declared.job.WaitingJob.{WaitingJob}
 
@@ -79,11 +79,11 @@ pub found_leaves : (job : ℕ) (changes : List RowChange) (m : MachineState)
 found_leaves job changes m = of (is_running job m)
   where
     rows : Happening
-    rows = finds (telling m.saved.songs (kept_changes m.saved.profile changes)) m
+    rows = finds (telling m.saved.songs (kept_changes m.saved.profile (spared m changes))) m
 
     in_room : (b : Bool) → let h = cond b (nothing_happens m) rows in jobs_of (kept_event m h).after ≡ jobs_of m
     in_room true = refl
-    in_room false = found_in (telling m.saved.songs (kept_changes m.saved.profile changes)) m
+    in_room false = found_in (telling m.saved.songs (kept_changes m.saved.profile (spared m changes))) m
 
     of : (b : Bool) → let h = cond b (if_room m rows) (nothing_happens m) in jobs_of (kept_event m h).after ≡ jobs_of m
     of true = in_room (lacks_room m)

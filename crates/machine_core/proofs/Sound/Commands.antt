@@ -19,7 +19,7 @@ use Rattle.machine_core.specs.Followed.{current_row, followed}
 use Rattle.machine_core.specs.Happening.{Happening, if_room, nothing_happens}
 use Rattle.machine_core.specs.Meaning.{Meaning, order_ops}
 use Rattle.machine_core.specs.Reports.{fed_in, when_fed, when_ended, when_broken}
-use Rattle.machine_core.specs.Scanning.{is_running, kept_changes, telling, finds, ends_scan, when_found, when_scanned}
+use Rattle.machine_core.specs.Scanning.{is_running, kept_changes, telling, finds, ends_scan, when_found, when_scanned, spared}
 use Rattle.machine_core.specs.Sound.{IsSoundPlayer, IsSound}
 use Rattle.machine_core.specs.State.{MachineState, lacks_room, settings_of}
 use Rattle.machine_core.specs.Steps.{current_length, puts, steps, unsaved, without_consume}
@@ -121,11 +121,11 @@ pub when_found_sound : (job : ℕ) (changes : List RowChange) (m : MachineState)
 when_found_sound job changes m sound = of (is_running job m)
   where
     rows : Happening
-    rows = finds (telling m.saved.songs (kept_changes m.saved.profile changes)) m
+    rows = finds (telling m.saved.songs (kept_changes m.saved.profile (spared m changes))) m
 
     in_room : (b : Bool) → let h = cond b (nothing_happens m) rows in IsSound h.after
     in_room true = sound
-    in_room false = finds_sound (telling m.saved.songs (kept_changes m.saved.profile changes)) m sound
+    in_room false = finds_sound (telling m.saved.songs (kept_changes m.saved.profile (spared m changes))) m sound
 
     of : (b : Bool) → let h = cond b (if_room m rows) (nothing_happens m) in IsSound h.after
     of true = in_room (lacks_room m)

@@ -21,7 +21,7 @@ use Rattle.machine_core.specs.Followed.{current_row, followed}
 use Rattle.machine_core.specs.Happening.{Happening, if_room, nothing_happens}
 use Rattle.machine_core.specs.Meaning.{Meaning, order_ops}
 use Rattle.machine_core.specs.Reports.{fed_in, when_broken, when_ended, when_fed}
-use Rattle.machine_core.specs.Scanning.{ends_scan, finds, is_running, kept_changes, telling, when_found, when_scanned}
+use Rattle.machine_core.specs.Scanning.{ends_scan, finds, is_running, kept_changes, telling, when_found, when_scanned, spared}
 use Rattle.machine_core.specs.Sound.{IsSoundMachine, IsWithinSong}
 use Rattle.machine_core.specs.State.{MachineState, lacks_room, settings_of}
 use Rattle.machine_core.specs.Steps.{moves, puts, step_in, steps as making, unsaved, without_consume}
@@ -151,11 +151,11 @@ when_found_holds job changes m holds = record {
 }
   where
     rows : Happening
-    rows = finds (telling m.saved.songs (kept_changes m.saved.profile changes)) m
+    rows = finds (telling m.saved.songs (kept_changes m.saved.profile (spared m changes))) m
 
     queue_in : (b : Bool) → let h = cond b (nothing_happens m) rows in IsQueue h.after.saved.queue
     queue_in true = holds.queue
-    queue_in false = finds_queue (telling m.saved.songs (kept_changes m.saved.profile changes)) m holds.queue
+    queue_in false = finds_queue (telling m.saved.songs (kept_changes m.saved.profile (spared m changes))) m holds.queue
 
     queue_of : (b : Bool) → let h = cond b (if_room m rows) (nothing_happens m) in IsQueue h.after.saved.queue
     queue_of true = queue_in (lacks_room m)
@@ -163,7 +163,7 @@ when_found_holds job changes m holds = record {
 
     frame_in : (b : Bool) → let h = cond b (nothing_happens m) rows in IsWithinSong h.after
     frame_in true = holds.frame
-    frame_in false = finds_within (telling m.saved.songs (kept_changes m.saved.profile changes)) m holds.frame
+    frame_in false = finds_within (telling m.saved.songs (kept_changes m.saved.profile (spared m changes))) m holds.frame
 
     frame_of : (b : Bool) → let h = cond b (if_room m rows) (nothing_happens m) in IsWithinSong h.after
     frame_of true = frame_in (lacks_room m)

@@ -273,6 +273,9 @@ impl Machine {
         let Ok(walk) = self.saved.songs().walk(place) else {
             return Err(Failure::Refused(CommandRefusal::NoSuchUri));
         };
+        if work.is_long() {
+            return work.keep_none();
+        }
         let mark = work.text.len();
         let written = write_walk(&mut work.text, walk, detail);
         work.keep(mark, written)
@@ -286,6 +289,9 @@ impl Machine {
         let Ok(walk) = self.saved.songs().told_walk(place) else {
             return Err(Failure::Refused(CommandRefusal::NoSuchUri));
         };
+        if work.is_long() {
+            return work.keep_none();
+        }
         let mark = work.text.len();
         let written = write_below(&mut work.text, place, walk, detail);
         work.keep(mark, written)
@@ -305,6 +311,9 @@ impl Machine {
         let Ok(rows) = self.saved.songs().told_under(place) else {
             return Err(Failure::Refused(CommandRefusal::NoSuchUri));
         };
+        if work.is_long() {
+            return work.keep_none();
+        }
         let mark = work.text.len();
         let written = write_names_in(&mut work.text, rows, place);
         work.keep(mark, written)
@@ -359,6 +368,9 @@ impl Machine {
         let Ok(rows) = self.saved.songs().told_under(place) else {
             return Err(Failure::Refused(CommandRefusal::NoSuchUri));
         };
+        if work.is_long() {
+            return work.keep_none();
+        }
         let mark = work.text.len();
         let written = self.put_told(&mut work.text, mask, place, rows);
         work.keep(mark, written)
@@ -401,6 +413,9 @@ impl Machine {
         let Ok(songs) = songs.songs_in(alloc, place) else {
             return Err(Failure::NoMemory);
         };
+        if work.is_long() {
+            return work.keep_none();
+        }
         let mark = work.text.len();
         let written = write_content(&mut work.text, mask, &folders, &songs);
         work.keep(mark, written)

@@ -12,7 +12,7 @@ ghost use Rattle.machine_core.specs.Finding.{finding_meaning, matching, found, i
 ghost use Rattle.machine_core.specs.Work.{HasRoom, Performs, command_room};
 
 use super::lists::list_name;
-use crate::answer::write_songs;
+use crate::answer::{write_songs, write_texts};
 use crate::machine::Machine;
 use crate::named::row_numbers;
 use crate::work::{Failure, Work};
@@ -28,8 +28,9 @@ use song_files::Tag;
 use state_codec::RowNumbers;
 use std::alloc::Global;
 use values::chosen_values;
-use writing::{write_by_uri, write_chosen_files, write_values};
+use writing::{write_by_uri, write_chosen_files};
 
+mod apart;
 mod entries;
 mod gathering;
 mod groups;
@@ -250,7 +251,7 @@ impl Machine {
     {
         let values = chosen_values(alloc, self.saved.profile(), self.saved.songs(), tag, filter)?;
         let mark = work.text.len();
-        let written = write_values(&mut work.text, tag, &values);
+        let written = write_texts(&mut work.text, tag.name(), &values);
         work.keep(mark, written)
     }
 

@@ -207,6 +207,9 @@ impl Machine {
     fn list_names(&self, work: &mut Work) -> Result<(), Failure>
         ensures { Performs (lists_meaning all_in_mask commands.Names self.now) self.now self.now work.old work.new result }
     {
+        if work.is_long() {
+            return work.keep_none();
+        }
         let mark = work.text.len();
         let saved = &self.saved;
         let written = write_list_names(
@@ -223,6 +226,9 @@ impl Machine {
         ensures { Performs (lists_meaning all_in_mask (commands.Songs name.now) self.now) self.now self.now work.old work.new result }
     {
         let songs = songs_named(self.saved.lists(), name)?;
+        if work.is_long() {
+            return work.keep_none();
+        }
         let mark = work.text.len();
         let written = write_uris(&mut work.text, songs.as_slice());
         work.keep(mark, written)

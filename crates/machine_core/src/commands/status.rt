@@ -57,6 +57,7 @@ impl Machine {
             next: shown.next,
             job: running_job(&self.job),
             error: self.player.error(),
+            is_unread: self.clock.is_unread,
         };
         write_status(out, &status)
     }

@@ -150,6 +150,9 @@ impl Machine {
         if !self.has_song(uri) {
             return Err(Failure::Refused(CommandRefusal::NoSuchUri));
         }
+        if work.is_long() {
+            return work.keep_none();
+        }
         let mark = work.text.len();
         let written = write_stickers(&mut work.text, self.saved.stickers(), uri);
         work.keep(mark, written)

@@ -11,7 +11,7 @@ ghost use Rattle.machine_core.specs.ScanningRows.{AreTold, count_told};
 
 use profile::Profile;
 use song_db::{MAX_ROWS, RowChange, SongDb, SongRow};
-use state_codec::{Changes, row_behind};
+use state_codec::row_behind;
 use std::alloc::{AllocError, Global};
 
 // Those that do, in their order. Each is looked up among the rows and among those before it.
@@ -19,13 +19,12 @@ pub(super) fn telling(
     alloc: Global,
     profile: Profile,
     songs: &SongDb,
-    changes: Changes,
+    changes: Vec<RowChange>,
 ) -> Result<Vec<RowChange>, AllocError>
-    ensures told { IfOk result (λ told. told.items ≡ telling songs.now (kept_changes profile changes)) }
+    ensures told { IfOk result (λ told. told.items ≡ telling songs.now (kept_changes profile changes.items)) }
     ensures fit { IfOk result (λ told. list_any is_left_out (effects_of songs.now told.items) ≡ false) }
 {
     let mut count = songs.len();
-    let changes = changes.into_vec();
     let mut told = Vec::with_capacity(alloc, changes.len())?;
     for change in changes {
         take_kept(profile, songs, change, &mut told, &mut count);

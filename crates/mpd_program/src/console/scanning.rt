@@ -41,6 +41,7 @@ impl<D: Disk, F: Folder, W: Write> Service<'_, '_, '_, D, F, W> {
     {
         let job = order.job();
         self.serve_changes(order)?;
+        self.tell_room()?;
         self.serve_event(Event::ScanDone { job })
     }
 
@@ -65,6 +66,11 @@ impl<D: Disk, F: Folder, W: Write> Service<'_, '_, '_, D, F, W> {
                 Some(changes) => changes,
                 None => return Ok(()),
             };
+            self.tell_room()?;
+            // Without room the changes would be lost.
+            if self.live.lacks_room() {
+                return Err(Ending::Cut);
+            }
             self.serve_event(Event::Batch { job, changes })?;
             batches += 1;
         }

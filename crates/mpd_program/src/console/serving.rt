@@ -1,5 +1,5 @@
 // One client, from its connect on.
-ghost use Rattle.std.specs.Prelude.{◌≡◌, [], None, IfSome, OnOk};
+ghost use Rattle.std.specs.Prelude.{◌≡◌, [], None, IfSome, Ok, Err, OnOk, MatchResult};
 ghost use Rattle.client_session.specs.Requests.{brought, fault_at, nothing};
 ghost use Rattle.mpd_program.specs.Console.{asked, asked_by, events_of, ComesInTurn, RunsNone};
 ghost use Rattle.mpd_program.specs.Serving.{ending_of, ending_with, fed, IsReady, IsUsable, Serves, ServesInput, StepsTo};
@@ -99,6 +99,54 @@ impl<D: Disk, F: Folder, W: Write> Service<'_, '_, '_, D, F, W> {
         if is_open { Ok(()) } else { Err(Ending::Whole) }
     }
 
+    // Gives back the room in the file in use, before a checkpoint that is due is made.
+    fn give_room(&mut self) -> Result<(), Ending>
+        requires { IsUsable self.old }
+        ensures served { Serves D.honest D.history D.faults W.contents [] self.old self.new result }
+        ensures state { OnOk result (self.new.live.state ≡ self.old.live.state) }
+    {
+        match self.live.give_room() {
+            Ok(()) => {}
+            Err(refusal) => return Err(ending_of(refusal)),
+        }
+        Ok(())
+    }
+
+    // Makes the checkpoint that is due, and room for records, where the disk has room for them.
+    fn look_for_room(&mut self) -> Result<bool, Ending>
+        requires { IsUsable self.old }
+        ensures served { MatchResult result
+            (λ is_there. Serves D.honest D.history D.faults W.contents [] self.old self.new (Ok tt))
+            (λ ending. Serves D.honest D.history D.faults W.contents [] self.old self.new (Err ending)) }
+        ensures state { OnOk result (self.new.live.state ≡ self.old.live.state) }
+    {
+        let is_there = match self.live.make_room() {
+            Ok(is_there) => is_there,
+            Err(refusal) => return Err(ending_of(refusal)),
+        };
+        Ok(is_there)
+    }
+
+    // Makes room for what comes next, and tells the stage where that has changed. Under the first profile nothing is done.
+    pub(super) fn tell_room(&mut self) -> Result<(), Ending>
+        requires { IsUsable self.old }
+        ensures served { Serves D.honest D.history D.faults W.contents [] self.old self.new result }
+        ensures named { self.old.live.state.machine.saved.profile ≡ Profile.Named → (result ≡ Ok tt) × (self.new ≡ self.old) }
+        ensures job { OnOk result (self.new.live.state.machine.job ≡ self.old.live.state.machine.job) }
+        ensures waiting { OnOk result (self.new.live.state.machine.waiting ≡ self.old.live.state.machine.waiting) }
+    {
+        if let Profile::Named = self.live.profile() {
+            return Ok(());
+        }
+        self.give_room()?;
+        let lacks = self.live.lacks_room();
+        let is_there = self.look_for_room()?;
+        if is_there != lacks {
+            return Ok(());
+        }
+        self.serve_event(Event::Room { is_there })
+    }
+
     // Tells the time, where a clock is at hand.
     fn tell_time(&mut self) -> Result<(), Ending>
         requires { IsReady self.old }
@@ -139,6 +187,7 @@ impl<D: Disk, F: Folder, W: Write> Service<'_, '_, '_, D, F, W> {
         ensures idle { OnOk result (RunsNone self.new.live.state.machine.job) }
     {
         let client = self.client;
+        self.tell_room()?;
         self.tell_time()?;
         self.read_picture(&request)?;
         self.serve_event(Event::Request(client, request))?;
@@ -204,6 +253,7 @@ impl<D: Disk, F: Folder, W: Write> Service<'_, '_, '_, D, F, W> {
             (R.remaining reader.old) (R.remaining reader.new) self.old self.new result }
     {
         let event = Event::Connect(self.client);
+        self.tell_room()?;
         self.serve_event(event)?;
         self.serve_input(reader)
     }

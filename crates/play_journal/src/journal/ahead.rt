@@ -1,17 +1,18 @@
 // Room that is made before it is needed: in the file in use for records, in the other one for a snapshot.
-ghost use Rattle.std.specs.Prelude.{◌≡◌, ◌+◌, ◌≤◌, true, false, length, Err, IfOk, OnOk, OnErr, MatchBool, Some};
+ghost use Rattle.std.specs.Prelude.{◌≡◌, ◌+◌, ◌≤◌, true, false, length, Ok, Err, IfOk, OnOk, OnErr, MatchBool, Some};
 ghost use Rattle.disk_model.specs.Faults.{HasGrown};
 ghost use Rattle.disk_model.specs.Images.{window, settled};
 ghost use Rattle.disk_model.specs.Later.{AreLater, HasFailed, IsLater};
 ghost use Rattle.disk_model.specs.Moments.{AllSince};
-ghost use Rattle.play_journal.specs.Calls.{HasOtherRoom, HasRoom, Holds, KeepsItsNumbers, RefusesRoom, SameFaults, StaysInFile};
-ghost use Rattle.play_journal.specs.File.{IsShut};
+ghost use Rattle.play_journal.specs.Calls.{HasOtherRoom, HasRoom, Holds, KeepsItsNumbers, RefusesRoom, SameFaults, StaysInFile, in_use};
+ghost use Rattle.play_journal.specs.File.{IsShut, spelling};
 ghost use Rattle.play_journal.specs.Laying.{IsSameOrShut};
 ghost use Rattle.play_journal.specs.Pair.{AllPairsSince};
 
 use super::Journal;
 use crate::JournalError;
 use crate::laying::close_gate;
+use crate::opening::cut_to;
 use crate::reading::HEAD_LEN;
 use disk_model::Disk;
 use std::io;
@@ -33,6 +34,8 @@ impl<D: Disk> Journal<D> {
         ensures same { OnOk result (KeepsItsNumbers self.old self.new) }
         ensures room { D.honest self.old.a → D.honest self.old.b
             → IfOk result (λ is_there. is_there ≡ true → HasRoom D.content bytes self.new) }
+        ensures there { D.honest self.old.a → D.honest self.old.b → self.old.is_spent ≡ false → HasRoom D.content bytes self.old
+            → (result ≡ Ok true) × (self.new ≡ self.old) }
 
         ensures refuses { RefusesRoom self.old self.new result }
         ensures met_none { OnOk result (SameFaults D.faults self.old.a self.old.b self.new.a self.new.b) }
@@ -72,9 +75,47 @@ impl<D: Disk> Journal<D> {
 
     /// How many bytes of records there is room for behind the closing commit byte.
     pub fn room_left(&self) -> u64
-        ensures { D.honest self.now.a → D.honest self.now.b → self.now.is_spent ≡ false → HasRoom D.content result self.now }
+        ensures { D.honest self.now.a → D.honest self.now.b → self.now.is_spent ≡ false
+            → length (spelling self.now.content) + 1 + result ≡ length (D.content (in_use self.now)) }
     {
         self.here.len().saturating_sub(self.end.saturating_add(1))
+    }
+
+    /// Gives back the room behind the closing commit byte of the file in use: the file is cut there, and synced. What the files say stays.
+    ///
+    /// It refuses `DiskFault`: the journal is spent, or is now.
+    pub fn give_room(&mut self) -> Result<(), JournalError>
+        // Stopped at any moment, the files give what they gave before.
+        ensures any_moment { D.honest self.old.a → D.honest self.old.b → self.old.is_spent ≡ false
+            → AllPairsSince (λ f. f ≡ Some self.old.content)
+            (D.history self.new.a) (length (D.history self.old.a)) (D.history self.new.b) (length (D.history self.old.b)) }
+        ensures kept { D.honest self.old.a → D.honest self.old.b → OnOk result (Holds D.history self.new self.old.content) }
+        ensures same { OnOk result (KeepsItsNumbers self.old self.new) }
+        ensures given { D.honest self.old.a → D.honest self.old.b
+            → OnOk result (length (D.content (in_use self.new)) ≡ length (spelling self.old.content) + 1) }
+
+        ensures refuses { RefusesRoom self.old self.new result }
+        ensures met_none { OnOk result (SameFaults D.faults self.old.a self.old.b self.new.a self.new.b) }
+        ensures fault { D.honest self.old.a → D.honest self.old.b → self.old.is_spent ≡ false → result ≡ Err JournalError.DiskFault
+            → HasFailed D.faults self.old.a self.old.b self.new.a self.new.b }
+        ensures file { StaysInFile self.old self.new }
+        ensures later { AreLater D.honest D.history D.faults self.old.a self.old.b self.new.a self.new.b }
+    {
+        if self.spent {
+            return Err(JournalError::DiskFault);
+        }
+        let end = self.end.saturating_add(1);
+        let size = self.here.len();
+        if size <= end {
+            return Ok(());
+        }
+        match cut_to(&mut self.here, end) {
+            Ok(()) => Ok(()),
+            Err(error) => {
+                self.spent = true;
+                Err(error)
+            }
+        }
     }
 
     /// Makes sure of room for a snapshot of this length in the file that isn't in use: that is shut, as a checkpoint shuts it, and made so
@@ -90,6 +131,8 @@ impl<D: Disk> Journal<D> {
         ensures same { OnOk result (KeepsItsNumbers self.old self.new) }
         ensures room { D.honest self.old.a → D.honest self.old.b
             → IfOk result (λ is_there. is_there ≡ true → HasOtherRoom D.content snapshot_len self.new) }
+        ensures there { D.honest self.old.a → D.honest self.old.b → self.old.is_spent ≡ false
+            → HasOtherRoom D.content snapshot_len self.old → (result ≡ Ok true) × (self.new ≡ self.old) }
 
         ensures refuses { RefusesRoom self.old self.new result }
         ensures met_none { OnOk result (SameFaults D.faults self.old.a self.old.b self.new.a self.new.b) }

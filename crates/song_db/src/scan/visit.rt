@@ -41,7 +41,8 @@ fn is_song(rules: LibraryRules, path: &str) -> bool
     is_named(rules.endings, path.as_bytes()) && folders_over(path) <= MAX_FOLDERS
 }
 
-fn is_named(endings: Endings, path: &[u8]) -> bool
+/// Whether a path has one of these endings, in any ASCII case: of a library that takes them, the others are no songs.
+pub fn is_named(endings: Endings, path: &[u8]) -> bool
     ensures { result ≡ is_named endings path.now }
 {
     ends_as_wav(path)

@@ -2,7 +2,7 @@ use Rattle.std.proofs.Common.{◌∙◌, sym, arith, length, All}
 use Rattle.std.proofs.lemmas.List.Elements.{All-filter}
 use Rattle.as_wave.specs.ChunkHead.{StandsBy}
 use Rattle.as_wave.specs.StandsFor.{is_kept_id}
-use Rattle.as_wave.specs.declared.chunks.ChunkHead.{ChunkHead}
+use Rattle.wave_pcm.specs.declared.chunks.ChunkHead.{ChunkHead}
 use Rattle.as_wave.proofs.Picks.{many_heads, without_format, without_data, many_kept, all_found}
 use Rattle.as_wave.proofs.pick.plan_chunks.Goals as goal
 

@@ -3,7 +3,7 @@ use Rattle.std.proofs.lemmas.List.Sums.{sum_by_more}
 use Rattle.std.proofs.lemmas.List.{get_or_default}
 use Rattle.as_wave.specs.ChunkHead.{chunks_at, chunk_size}
 use Rattle.as_wave.specs.StandsFor.{chunks_bytes}
-use Rattle.as_wave.specs.declared.chunks.ChunkHead.{ChunkHead}
+use Rattle.wave_pcm.specs.declared.chunks.ChunkHead.{ChunkHead}
 use Rattle.as_wave.proofs.PieceReads.{in_chunk, past_chunk}
 use Rattle.as_wave.proofs.pieces.chunk_with.Goals as goal
 use Rattle.as_wave.proofs.pieces.chunk_with.Goals.{then-left-lt-HEAD_LEN-via-then-left-lt-HEAD_LEN, then-left-lt-HEAD_LEN-via-else-left-lt-HEAD_LEN+then-left-head, then-left-lt-HEAD_LEN-via-else-left-lt-HEAD_LEN+else-left-head+then-left-head-2}

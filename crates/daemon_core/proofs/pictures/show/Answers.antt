@@ -1,10 +1,10 @@
-use Rattle.std.proofs.Common.{List, Result, Some, None, sym, ap, subst, ◌∙◌}
+use Rattle.std.proofs.Common.{List, Result, Some, None, sym, subst}
 use Rattle.std.specs.Prelude.{ℕ, option_copied}
 use Rattle.command_text.specs.declared.refusal.CommandRefusal.{CommandRefusal}
-use Rattle.command_text.specs.declared.refusal.CommandRefusal.TheVariants.{NoSuchSong, Setup}
+use Rattle.command_text.specs.declared.refusal.CommandRefusal.TheVariants.{Setup}
 use Rattle.command_text.specs.declared.refusal.SetupRefusal.TheVariants as refusals
 use Rattle.daemon_core.specs.Pictures.{shown, RunsShowing}
-use Rattle.daemon_core.proofs.Showing.{album_shown, inside_shown, no_song_shown, refuses}
+use Rattle.daemon_core.proofs.Showing.{album_shown, refuses}
 use Rattle.daemon_core.proofs.pictures.show.Goals as goal
 
 pub returns-in-Some : goal.returns-in-Some

@@ -12,7 +12,7 @@ use Rattle.machine_core.specs.Happening.{nothing_happens}
 use Rattle.machine_core.specs.Keeping.{keeps_place, kept_event}
 use Rattle.machine_core.specs.Meaning.{order_ops}
 use Rattle.machine_core.specs.Room.{caught, is_idle, room_back, when_room}
-use Rattle.machine_core.specs.Scanning.{finds, is_running, kept_changes, telling}
+use Rattle.machine_core.specs.Scanning.{finds, is_running, kept_changes, telling, spared}
 use Rattle.machine_core.specs.State.{MachineState, lacks_room, settings_of, told_room}
 use Rattle.machine_core.specs.Steps.{steps}
 use Rattle.machine_core.specs.declared.steps.PlayerStep.TheVariants.{Ended, Failed}
@@ -76,7 +76,7 @@ of_running false lacks told m is room = absurd (false≢true is)
 
 pub returns-clause-found : goal.returns-clause-found
 returns-clause-found c = λ job changes m runs room.
-    of_running (is_running job m) (lacks_room m) (telling m.saved.songs (kept_changes m.saved.profile changes)) m runs room
+    of_running (is_running job m) (lacks_room m) (telling m.saved.songs (kept_changes m.saved.profile (spared m changes))) m runs room
 
 pub returns-clause-kept_none : goal.returns-clause-kept_none
 returns-clause-kept_none c = λ ticket m saved same. when_kept_none ticket m same

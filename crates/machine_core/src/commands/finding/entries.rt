@@ -8,6 +8,7 @@ ghost use Rattle.song_db.specs.Row.{row_at};
 ghost use Rattle.machine_core.specs.EntryRows.{row_of_entry};
 ghost use Rattle.machine_core.specs.Finding.{entries_in_order, entry_row, entry_row_lines, entry_rows, in_window};
 
+use super::apart::{is_marked, ruled_out};
 use super::end_of;
 use command_text::{NoMemory, Search, TagMask, Window, write_entry};
 use filter_expr::{Case, Filter, SortOrder};
@@ -83,8 +84,12 @@ fn matching_entries<'a>(
 ) -> Result<Vec<FoundEntry<'a>>, NoMemory>
     ensures { IfOk result (λ found. map row_of_entry found.items ≡ entry_rows case filter.now songs.now 0 entries.now) }
 {
+    let marks = ruled_out(alloc, songs, entries, case, filter)?;
     let mut found = Vec::new(alloc);
     for position in 0..entries.len() {
+        if is_marked(&marks, position) {
+            continue;
+        }
         let entry = entries.at(position);
         push_match(alloc, songs, case, filter, position, entry, &mut found)?;
     }

@@ -208,8 +208,7 @@ fn grouped<'a>(
     Ok(groups)
 }
 
-// Adds the values of tags, each within those of the tag before it. An answer that is longer than any that is sent is not written to its
-// end.
+// Adds the values of tags, each within those of the tag before it. Of an answer that is longer than any that is sent no more is written.
 pub(super) fn write_groups(
     out: &mut Vec<u8>,
     alloc: Global,
@@ -226,7 +225,7 @@ pub(super) fn write_groups(
     let groups = grouped(alloc, within, *tag, numbers)?;
     for (text, told) in groups.iter() {
         if out.len() > LONGEST_ANSWER {
-            return Err(NoMemory);
+            return Ok(());
         }
         write_value(out, *tag, *text)?;
         write_groups(out, alloc, within, inner, told.as_slice())?;

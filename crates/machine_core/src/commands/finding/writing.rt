@@ -5,16 +5,15 @@ ghost use Rattle.std.specs.List.{flat_map};
 ghost use Rattle.command_text.specs.Answer.{Adds};
 ghost use Rattle.command_text.specs.AnswerSongs.{file_line, song_lines};
 ghost use Rattle.profile.specs.declared.profile.Profile.TheVariants.{Named};
-ghost use Rattle.machine_core.specs.Finding.{Writes, chosen, found, matching, part_of, value_lines};
+ghost use Rattle.machine_core.specs.Finding.{Writes, chosen, found, matching, part_of};
 
 use super::gathering::matching_rows;
 use super::part::Part;
 use super::windowed;
 use crate::answer::write_songs;
-use command_text::{NoMemory, Search, TagMask, write_file, write_song, write_value};
+use command_text::{NoMemory, Search, TagMask, write_file, write_song};
 use filter_expr::{Case, Filter};
-use song_db::{SongDb, SongRow, Texts};
-use song_files::Tag;
+use song_db::{SongDb, SongRow};
 use std::alloc::Global;
 
 // Adds the rows that match, and of these a part. The rows behind the part aren't looked at.
@@ -120,16 +119,6 @@ fn write_found_files(out: &mut Vec<u8>, rows: &[&SongRow]) -> Result<(), NoMemor
 {
     for row in rows {
         write_file(out, row.uri())?;
-    }
-    Ok(())
-}
-
-// Adds the values of a tag.
-pub(super) fn write_values(out: &mut Vec<u8>, tag: Tag, values: &Texts<'_>) -> Result<(), NoMemory>
-    ensures { Adds (value_lines tag values.now) result out.old out.new }
-{
-    for value in values.iter() {
-        write_value(out, tag, *value)?;
     }
     Ok(())
 }

@@ -41,6 +41,9 @@ impl Machine {
         ensures { Performs (queue_meaning mask (commands.Info range) self.now) self.now self.now work.old work.new result }
     {
         let span = self.span_or_all(range)?;
+        if work.is_long() {
+            return work.keep_none();
+        }
         let mark = work.text.len();
         let written = write_span(&mut work.text, mask, &self.saved, span);
         work.keep(mark, written)
@@ -55,6 +58,9 @@ impl Machine {
             start: 0,
             end: self.queue_length(),
         };
+        if work.is_long() {
+            return work.keep_none();
+        }
         let mark = work.text.len();
         let written = write_files(&mut work.text, self.saved.queue().entries(), span);
         work.keep(mark, written)
@@ -69,6 +75,9 @@ impl Machine {
             start: 0,
             end: self.queue_length(),
         };
+        if work.is_long() {
+            return work.keep_none();
+        }
         let mark = work.text.len();
         let written = write_span(&mut work.text, mask, &self.saved, span);
         work.keep(mark, written)
@@ -99,6 +108,9 @@ impl Machine {
     {
         let span = self.span_or_all(range)?;
         let positions = changed_in(alloc, self.saved.queue(), version, span)?;
+        if work.is_long() {
+            return work.keep_none();
+        }
         let mark = work.text.len();
         let written = write_positions(&mut work.text, mask, &self.saved, &positions);
         work.keep(mark, written)
@@ -119,6 +131,9 @@ impl Machine {
         let span = self.span_or_all(range)?;
         let queue = self.saved.queue();
         let positions = changed_in(alloc, queue, version, span)?;
+        if work.is_long() {
+            return work.keep_none();
+        }
         let mark = work.text.len();
         let written = write_places(&mut work.text, queue.entries(), &positions);
         work.keep(mark, written)

@@ -1,10 +1,13 @@
 use Rattle.std.proofs.Common.{arith}
+use Rattle.song_files.specs.Tags.{texts_of}
 use Rattle.song_db.specs.Query.{distinct_of, values_of}
+use Rattle.song_db.specs.Row.{Row}
 use Rattle.song_db.proofs.Ordered.{shown}
 use Rattle.song_db.proofs.TextSteps.{values_more}
 use Rattle.song_db.proofs.values.sorted_values.Goals as goal
 
 pub loop-row-preserved : goal.loop-row-preserved
-loop-row-preserved c = values_more c.args.rows.now c.loop-row.row-index c.row-item.result c.args.tag
+loop-row-preserved c =
+    values_more (λ (r : Row). texts_of r.tags c.args.tag) c.args.rows.now c.loop-row.row-index c.row-item.result
     (distinct_of (shown c.loop-row.values.items)) (distinct_of (shown c.push_values.new.values.items))
     (values_of c.args.rows.now c.args.tag) (omega arith) c.row-item.is c.in_ok-push_values.ensures c.loop-row.invariant

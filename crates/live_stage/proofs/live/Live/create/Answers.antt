@@ -55,7 +55,9 @@ returns-in-Ok-create-clause-numbers g c =
     let long = ap (λ (l : List ℕ). length l) c.of.ensures.spelled in (
       numbers_made g.D.Disk.faults c.args.a c.args.b c.in-Ok-create.journal c.layout_number.result (length c.of.result.pieces) new,
       file_made g.D.Disk.faults c.args.a c.args.b c.in-Ok-create.journal c.layout_number.result (length c.of.result.pieces)
-          c.in-Ok.saved new long ∙ ap (λ (s : SavedState). first_file s) c.in-Ok.ensures.ok,
+          c.in-Ok.saved new
+          (c.layout_number.ensures ∙ ap (λ (s : SavedState). written_layout s.profile) (sym c.in-Ok.ensures.ok)) long
+          ∙ ap (λ (s : SavedState). first_file s) c.in-Ok.ensures.ok,
       refl,
     )
 

@@ -111,21 +111,21 @@ pub returns-clause-step : goal.returns-clause-step
 returns-clause-step g c =
     let asked : Option ℕ → Stepped = λ k. step c.self.inside.core c.args.event k in
     let did = c.in-Ok.ensures.ok in
-    let place : c.in-Ok.outcome.refused_at ≡ c.new.result.refused_at = sym (ap (λ t. t.refused_at) c.new.ensures) in
-    let ops_are : c.deref.result.now ≡ (let of_answer : Stepped = asked c.new.result.refused_at in of_answer.ops) =
+    let place : c.in-Ok.outcome.refused_at ≡ c.new-turn.result.refused_at = sym (ap (λ t. t.refused_at) c.new-turn.ensures) in
+    let ops_are : c.deref.result.now ≡ (let of_answer : Stepped = asked c.new-turn.result.refused_at in of_answer.ops) =
     c.deref.ensures.value ∙ c.in-Ok.ensures.ok.ops ∙ ap (λ (k : Option ℕ). let of_answer : Stepped = asked k in of_answer.ops) place in
     let below : c.self.inside.journal.base + c.self.inside.journal.count < greatest = search rules in
-    let spelled : c.profile-profile.result ≡ profile_of_step (asked c.new.result.refused_at) =
+    let spelled : c.profile-profile.result ≡ profile_of_step (asked c.new-turn.result.refused_at) =
     c.profile-profile.ensures ∙ ap (λ (s : SavedState). s.profile) c.as_saved.ensures
     ∙ ap (λ (s : State). s.machine.saved.profile) c.in-Ok.ensures.ok.after
     ∙ ap (λ (k : Option ℕ). profile_of_step (asked k)) place in
     let begun : FileNumbers = record (file_of c.self.inside.journal) { is_put_off = c.self.inside.put_off } in
     rw (← c.self.view_is) (record {
       state = did.after ∙ ap (λ (k : Option ℕ). let now : Stepped = asked k in now.after) place;
-      outputs = ap (λ t. t.outputs) c.new.ensures ∙ did.outputs ∙ ap (λ (k : Option ℕ). let now : Stepped = asked k in now.outputs) place;
-      closes = ap (λ t. t.closes) c.new.ensures ∙ did.closes ∙ ap (λ (k : Option ℕ). let now : Stepped = asked k in now.closes) place;
-      ended = ap (λ t. t.ended) c.new.ensures ∙ did.ended ∙ ap (λ (k : Option ℕ). let now : Stepped = asked k in now.ended) place;
-      refused_at = ap (λ t. t.refused_at) c.new.ensures ∙ did.refused_at
+      outputs = ap (λ t. t.outputs) c.new-turn.ensures ∙ did.outputs ∙ ap (λ (k : Option ℕ). let now : Stepped = asked k in now.outputs) place;
+      closes = ap (λ t. t.closes) c.new-turn.ensures ∙ did.closes ∙ ap (λ (k : Option ℕ). let now : Stepped = asked k in now.closes) place;
+      ended = ap (λ t. t.ended) c.new-turn.ensures ∙ did.ended ∙ ap (λ (k : Option ℕ). let now : Stepped = asked k in now.ended) place;
+      refused_at = ap (λ t. t.refused_at) c.new-turn.ensures ∙ did.refused_at
           ∙ ap (λ (k : Option ℕ). let now : Stepped = asked k in now.refused_at) place;
       numbered = search rules;
       numbers = numbers_next c.self.inside.journal c.record_ops.new.journal c.self.inside.event c.deref.result.now below
@@ -138,7 +138,8 @@ returns-clause-step g c =
           c.in_ok-number.ensures.number.file
           ∙ put_off_recorded c.profile-profile.result (file_of c.self.inside.journal) c.deref.result.now c.self.inside.put_off
           ∙ ap (λ (ops : List Op). recorded c.profile-profile.result begun ops) ops_are
-          ∙ ap (λ (p : Profile). let of_answer : Stepped = asked c.new.result.refused_at in recorded p begun of_answer.ops) spelled;
+          ∙ ap (λ (p : Profile). let of_answer : Stepped = asked c.new-turn.result.refused_at in recorded p begun of_answer.ops) spelled;
+      work = omega (arith, c.saturating_add-work.ensures, c.added_work.ensures);
     })
 
 pub returns-clause-any_moment : goal.returns-clause-any_moment
@@ -151,13 +152,13 @@ returns-clause-any_moment g c =
     rw c.deref.ensures.value c.in-Ok.ensures.rebuilt in
     let applies : all_applied c.deref.result.now c.self.inside.core.machine.saved ≡ Some now.after.machine.saved =
     rebuilt ∙ ap (λ (s : State). Some s.machine.saved) c.in-Ok.ensures.ok.after in
-    let place : c.in-Ok.outcome.refused_at ≡ c.new.result.refused_at = sym (ap (λ t. t.refused_at) c.new.ensures) in
-    let ops_are : c.deref.result.now ≡ (let of_answer : Stepped = asked c.new.result.refused_at in of_answer.ops) =
+    let place : c.in-Ok.outcome.refused_at ≡ c.new-turn.result.refused_at = sym (ap (λ t. t.refused_at) c.new-turn.ensures) in
+    let ops_are : c.deref.result.now ≡ (let of_answer : Stepped = asked c.new-turn.result.refused_at in of_answer.ops) =
     c.deref.ensures.value ∙ c.in-Ok.ensures.ok.ops ∙ ap (λ (k : Option ℕ). let of_answer : Stepped = asked k in of_answer.ops) place in
     let mine : c.self.inside.core.machine.saved.profile ≡ c.profile-profile.result =
     sym (profile_stays c.in-Ok.outcome.ops.items c.self.inside.core.machine.saved c.step.new.self.machine.saved c.in-Ok.ensures.rebuilt)
     ∙ ap (λ (s : SavedState). s.profile) (sym c.as_saved.ensures) ∙ sym c.profile-profile.ensures in
-    let spelled : c.profile-profile.result ≡ profile_of_step (asked c.new.result.refused_at) =
+    let spelled : c.profile-profile.result ≡ profile_of_step (asked c.new-turn.result.refused_at) =
     c.profile-profile.ensures ∙ ap (λ (s : SavedState). s.profile) c.as_saved.ensures
     ∙ ap (λ (s : State). s.machine.saved.profile) c.in-Ok.ensures.ok.after
     ∙ ap (λ (k : Option ℕ). profile_of_step (asked k)) place in
@@ -168,7 +169,7 @@ returns-clause-any_moment g c =
     record {
       during = (
         c.in-Ok.outcome.refused_at,
-        ap (λ t. t.refused_at) c.new.ensures,
+        ap (λ t. t.refused_at) c.new-turn.ensures,
         find_either c.profile-profile.result _ _ _ _ c.self.inside.journal.content c.deref.result.now c.self.inside.core.machine.saved
             now.after.machine.saved mine first stands layout valid applies
             (λ e. (
@@ -189,9 +190,9 @@ returns-clause-any_moment g c =
           (λ e. ap (λ j. j.content) (c.record_ops.ensures.none e).1)
           (λ some. let held = (c.in_ok-number.ensures.any_moment some ha hb).kept in held.says)
           ∙ ap (λ (ops : List Op). recorded_content c.profile-profile.result c.self.inside.journal.content ops) ops_are
-          ∙ ap (λ (p : Profile). let of_answer : Stepped = asked c.new.result.refused_at in
+          ∙ ap (λ (p : Profile). let of_answer : Stepped = asked c.new-turn.result.refused_at in
           recorded_content p c.self.inside.journal.content of_answer.ops) spelled;
-      short = subst (λ (p : Profile). let of_answer : Stepped = asked c.new.result.refused_at in record_bytes p of_answer.ops ≤ longest_record)
+      short = subst (λ (p : Profile). let of_answer : Stepped = asked c.new-turn.result.refused_at in record_bytes p of_answer.ops ≤ longest_record)
           spelled (subst (λ (ops : List Op). record_bytes c.profile-profile.result ops ≤ longest_record) ops_are
           (record_short c.profile-profile.result c.deref.result.now (omega (
             arith,
@@ -206,7 +207,7 @@ returns-in-Err-clause-file g c = rw (← c.self.view_is, c.in-Err.ensures.err) (
 
 pub returns-clause-no_call : goal.returns-clause-no_call
 returns-clause-no_call g c =
-    let place : c.new.result.refused_at ≡ c.in-Ok.outcome.refused_at = ap (λ t. t.refused_at) c.new.ensures in
+    let place : c.new-turn.result.refused_at ≡ c.in-Ok.outcome.refused_at = ap (λ t. t.refused_at) c.new-turn.ensures in
     rw (← c.self.view_is) (λ none.
     let empty = c.deref.ensures.value ∙ c.in-Ok.ensures.ok.ops ∙ (rw place at none) in
     let same = (c.record_ops.ensures.none empty).1 in

@@ -1,11 +1,12 @@
 use Rattle.std.proofs.Common.{◌≡◌, ◌≢◌, ℕ, false, List, [], length, vec_len, Some, refl, sym, ap, subst, ◌∙◌, arith}
+use Rattle.std.specs.Prelude.{sum_by}
 use Rattle.std.proofs.lemmas.Bool.{eqb-false, eqb-true}
 use Rattle.std.proofs.lemmas.List.{nil_from_length}
 use Rattle.play_journal.specs.Content.{Content, with_records}
 use Rattle.daemon_core.specs.State.{State}
 use Rattle.live_stage.specs.declared.refusal.LiveError.{LiveError}
 use Rattle.live_stage.specs.declared.staging.Begin.{Begin}
-use Rattle.live_stage.specs.Answer.{Answer}
+use Rattle.live_stage.specs.Answer.{Answer, answer_work}
 use Rattle.live_stage.specs.Found.{state_of}
 use Rattle.live_stage.specs.Group.{RefusesFront, file_with, history_in}
 use Rattle.live_stage.specs.LiveState.{LiveState}
@@ -114,6 +115,13 @@ returns-clause-group g c =
     (ap (λ (f : FileNumbers). let laid : FileNumbers = record f { is_put_off = c.self.inside.put_off } in laid) written.file
     ∙ put_off_with (file_of c.self.inside.journal) c.stage_events-is_refused.new.group c.self.inside.put_off
     ∙ ap (λ (v : LiveState g.row.D.Denot). file_with v.file c.stage_events-is_refused.new.group) c.self.view_is)
+    (omega (
+      arith,
+      c.saturating_add-work.ensures,
+      c.work_of.ensures,
+      ap (λ (l : List Answer). sum_by answer_work l) c.as_slice.ensures.value,
+      ap (λ (v : LiveState g.row.D.Denot). v.work) c.self.view_is,
+    ))
 
 pub returns-clause-any_moment : goal.returns-clause-any_moment
 returns-clause-any_moment g c =

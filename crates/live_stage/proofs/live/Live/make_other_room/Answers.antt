@@ -39,6 +39,7 @@ returns-clause-same g c =
       numbers = ap numbers (last_stays c.self.inside.journal c.make_other_room.new.self same);
       file = ap (λ (f : FileNumbers). let g : FileNumbers = record f { is_put_off = c.self.inside.put_off } in g)
           (file_stays c.self.inside.journal c.make_other_room.new.self same);
+      work = refl;
       same_file = same.same_file;
       usable = same.usable ∙ usable;
     })

@@ -39,6 +39,7 @@ returns-clause-same g c =
       numbers = ap numbers (last_stays c.self.inside.journal c.make_room.new.self same);
       file = ap (λ (f : FileNumbers). let g : FileNumbers = record f { is_put_off = c.self.inside.put_off } in g)
           (file_stays c.self.inside.journal c.make_room.new.self same);
+      work = refl;
       same_file = same.same_file;
       usable = same.usable ∙ usable;
     })
@@ -46,3 +47,14 @@ returns-clause-same g c =
 -- four of the longest records are so many bytes
 pub returns-clause-room : goal.returns-clause-room
 returns-clause-room g c = rw (← c.self.view_is) (λ ha hb there. let room = c.in-Ok.ensures.room ha hb there in omega (arith, room))
+
+-- where it is there already
+pub returns-clause-there : goal.returns-clause-there
+returns-clause-there g c =
+    let usable : c.self.inside.journal.is_spent ≡ false = ap (λ v. v.is_broken) c.self.view_is ∙ c.requires.usable in
+    rw (← c.self.view_is) (λ ha hb room. let told = (c.in-Ok.ensures.there ha hb usable (omega (arith, room))).0 in cc)
+
+pub returns-in-Err-clause-there : goal.returns-in-Err-clause-there
+returns-in-Err-clause-there g c =
+    let usable : c.self.inside.journal.is_spent ≡ false = ap (λ v. v.is_broken) c.self.view_is ∙ c.requires.usable in
+    rw (← c.self.view_is) (λ ha hb room. let told = (c.in-Err.ensures.there ha hb usable (omega (arith, room))).0 in cc)

@@ -181,6 +181,6 @@ pub returns-in-Ok-state_in-clause-begun : goal.returns-in-Ok-state_in-clause-beg
 returns-in-Ok-state_in-clause-begun g c =
     ok_then c.over.result c.over.ensures.begun (λ live begun.
     let same : live.state.machine.saved ≡ c.in-Ok-state_in.saved = ap (λ (s : State). s.machine.saved) begun.state in (
-      record { state = begun.state ∙ ap start (sym same); event = begun.event; usable = begun.usable },
+      record { state = begun.state ∙ ap start (sym same); event = begun.event; work = begun.work; usable = begun.usable },
       ap (λ (s : SavedState). s.profile) same ∙ c.in-Ok-state_in.ensures.profile (known g c),
     ))

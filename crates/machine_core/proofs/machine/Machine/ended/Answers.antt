@@ -29,7 +29,7 @@ returns-clause-ok c =
     (kept_step_happened (ended m.saved.queue.entries (settings_of m.saved) m.player c.args.ticket) m c.make_step.new.self
     c.keep_place.new.machine c.make_room.new.self c.make_step.new.work c.keep_place.new.self c.make_step.result c.profile-profile.result _
     c.before-before.result c.deref.result.now (moves_lawful (Ended c.args.ticket) m) c.before-before.ensures.kept
-    (c.in_ok-make_room.ensures.nothing.ops ∙ c.in_ok-work.ensures.ops) (sym c.if-is_err.ensures.value) c.make_step.ensures
+    (c.in_ok-make_room.ensures.cut.ops ∙ c.in_ok-work.ensures.ops) (sym c.if-is_err.ensures.value) c.make_step.ensures
     (profile ∙ sym (keeping_room m room))
     c.before-before.ensures.value c.keep_place.ensures.machine c.keep_place.ensures.ops.ops refl c.deref.ensures.value
     c.changed_since-changed.ensures)
@@ -45,4 +45,4 @@ keep_place-requires-clause-room c = λ wide.
     let m = c.args.self.now in
     step_leaves (ended m.saved.queue.entries (settings_of m.saved) m.player c.args.ticket) m c.make_step.new.self c.make_room.new.self
     c.make_step.new.work c.make_step.result c.profile-profile.result (sym c.if-is_err.ensures.value) c.make_step.ensures
-    (c.in_ok-make_room.ensures.nothing.size ∙ c.in_ok-work.ensures.size)
+    (c.in_ok-make_room.ensures.cut.size ∙ c.in_ok-work.ensures.size)

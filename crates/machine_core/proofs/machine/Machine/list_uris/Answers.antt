@@ -5,7 +5,7 @@ use Rattle.machine_core.specs.Lists.{songs_named, lists_meaning}
 use Rattle.machine_core.specs.Meaning.{says}
 use Rattle.machine_core.specs.Named.{IsNotFound}
 use Rattle.machine_core.specs.State.{MachineState}
-use Rattle.machine_core.proofs.Answering.{reads}
+use Rattle.machine_core.proofs.Answering.{passes, reads}
 use Rattle.machine_core.proofs.LookUps.{found, not_found}
 use Rattle.machine_core.proofs.machine.Machine.list_uris.Goals as goal
 
@@ -31,3 +31,15 @@ returns c =
     (found (songs_named m.saved.lists name) (λ songs. says (flat_map file_line songs) m) c.in_ok-songs.songs.now is
     ∙ ap (λ songs. says (flat_map file_line songs) m) (sym c.as_slice.ensures))
     refl c.len-mark.ensures refl refl c.write_uris-written.ensures c.keep.ensures
+
+pub returns-then-is_long : goal.returns-then-is_long
+unfolding lists_meaning
+returns-then-is_long c =
+    let m = c.args.self.now in
+    let name = c.args.name.now in
+    let lists : c.lists.result.now ≡ m.saved.lists = c.lists.ensures ∙ ap (λ (n : MachineState). n.saved.lists) c.self.view_is in
+    let is : songs_named m.saved.lists name ≡ Ok c.in_ok-songs.songs.now =
+    ap (λ all. songs_named all name) (sym lists) ∙ c.in_ok-songs.ensures.songs in
+    passes _ _ m m c.args.work.now c.keep_none.new.self _ _
+    (found (songs_named m.saved.lists name) (λ songs. says (flat_map file_line songs) m) c.in_ok-songs.songs.now is)
+    refl c.if-is_long.true c.is_long.ensures c.keep_none.ensures

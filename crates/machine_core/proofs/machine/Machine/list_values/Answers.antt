@@ -15,5 +15,5 @@ returns c =
     let profile = c.profile.ensures ∙ ap (λ (n : MachineState). n.saved.profile) c.self.view_is in
     let songs = c.songs.ensures ∙ ap (λ (n : MachineState). n.saved.songs) c.self.view_is in
     reads _ _ m m _ c.args.work.now _ c.keep.new.self _ _ (values_mean m tag tree) refl c.len-mark.ensures refl refl
-    (adds_same _ _ _ _ _ c.write_values-written.ensures (ap (value_lines tag) (c.in_ok-values.ensures
+    (adds_same _ _ _ _ _ (rw c.name.ensures at c.write_texts-written.ensures) (ap (value_lines tag) (c.in_ok-values.ensures
     ∙ (λ i. told_values (profile i) (chosen tree (songs i)) tag)))) c.keep.ensures

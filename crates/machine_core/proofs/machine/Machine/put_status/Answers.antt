@@ -22,6 +22,7 @@ returns c =
       next = c.args.shown.next;
       job = c.running_job.result;
       error = c.error.result;
+      is_unread = c.self.inside.clock.is_unread;
     } in
     let is = c.self.view_is in
     adds_same _ _ _ _ _ c.write_status.ensures
@@ -33,6 +34,7 @@ returns c =
     (c.state.ensures ∙ ap (λ (n : MachineState). n.player.state) is)
     (ap (λ (x : Shown). x.next) c.requires)
     (c.running_job.ensures ∙ ap (λ (n : MachineState). running_job n.job) is)
+    (ap (λ (n : MachineState). n.clock.is_unread) is)
     (c.song_shown.ensures.place ∙ ap (λ (x : Shown). current_lines (option_and_then (song_at m) x.current)) c.requires)
     (c.song_shown.ensures.played ∙ ap (λ (x : Shown). played_lines (option_and_then (song_at m) x.current)) c.requires)
     (c.error.ensures ∙ ap (λ (n : MachineState). n.player.error) is ∙ sym (lent_error m.player.error)))

@@ -6,7 +6,7 @@ use Rattle.play_queue.specs.declared.entry.Entry.{Entry}
 use Rattle.machine_core.specs.Entries.{place_info}
 use Rattle.machine_core.specs.Queue.{changed_in}
 use Rattle.machine_core.specs.State.{MachineState}
-use Rattle.machine_core.proofs.Answering.{reads}
+use Rattle.machine_core.proofs.Answering.{passes, reads}
 use Rattle.machine_core.proofs.Queue.Meanings.{places_shown}
 use Rattle.machine_core.proofs.machine.Machine.show_changed_places.Goals as goal
 
@@ -22,3 +22,9 @@ returns c =
     (adds_same _ _ _ _ _ c.write_places-written.ensures
     (ap (λ (all : List Entry). flat_map (place_info all) c.deref.result.now) entries
     ∙ ap (flat_map (place_info m.saved.queue.entries)) (c.deref.ensures.value ∙ changed))) c.keep.ensures
+
+pub returns-then-is_long : goal.returns-then-is_long
+returns-then-is_long c =
+    let m = c.args.self.now in
+    passes _ _ m m c.args.work.now c.keep_none.new.self _ _ (places_shown c.args.version c.args.range m c.in_ok-span.span (sym c.in_ok-span.ensures))
+    refl c.if-is_long.true c.is_long.ensures c.keep_none.ensures

@@ -5,7 +5,7 @@ use Rattle.play_queue.specs.Queue.{QueueState}
 use Rattle.machine_core.specs.Entries.{position_info}
 use Rattle.machine_core.specs.Queue.{changed_in}
 use Rattle.machine_core.specs.State.{MachineState}
-use Rattle.machine_core.proofs.Answering.{reads}
+use Rattle.machine_core.proofs.Answering.{passes, reads}
 use Rattle.machine_core.proofs.Queue.Meanings.{changes_shown}
 use Rattle.machine_core.proofs.machine.Machine.show_changes.Goals as goal
 
@@ -20,3 +20,9 @@ returns c =
     (adds_same _ _ _ _ _ c.write_positions-written.ensures
     (ap (λ (n : MachineState). flat_map (position_info c.args.mask n.saved) c.deref.result.now) c.self.view_is
     ∙ ap (flat_map (position_info c.args.mask m.saved)) (c.deref.ensures.value ∙ changed))) c.keep.ensures
+
+pub returns-then-is_long : goal.returns-then-is_long
+returns-then-is_long c =
+    let m = c.args.self.now in
+    passes _ _ m m c.args.work.now c.keep_none.new.self _ _ (changes_shown c.args.mask c.args.version c.args.range m c.in_ok-span.span (sym c.in_ok-span.ensures))
+    refl c.if-is_long.true c.is_long.ensures c.keep_none.ensures

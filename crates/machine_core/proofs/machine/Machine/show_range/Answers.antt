@@ -4,7 +4,7 @@ use Rattle.command_text.proofs.Adding.{adds_same}
 use Rattle.machine_core.specs.Entries.{position_info}
 use Rattle.machine_core.specs.Spans.{positions_in}
 use Rattle.machine_core.specs.State.{MachineState}
-use Rattle.machine_core.proofs.Answering.{reads}
+use Rattle.machine_core.proofs.Answering.{passes, reads}
 use Rattle.machine_core.proofs.Queue.Meanings.{range_shown}
 use Rattle.machine_core.proofs.machine.Machine.show_range.Goals as goal
 
@@ -16,3 +16,9 @@ returns c =
     (adds_same _ _ _ _ _ c.write_span-written.ensures
     (ap (λ (n : MachineState). flat_map (position_info c.args.mask n.saved) (positions_in c.in_ok-span.span)) c.self.view_is))
     c.keep.ensures
+
+pub returns-then-is_long : goal.returns-then-is_long
+returns-then-is_long c =
+    let m = c.args.self.now in
+    passes _ _ m m c.args.work.now c.keep_none.new.self _ _ (range_shown c.args.mask c.args.range m c.in_ok-span.span (sym c.in_ok-span.ensures))
+    refl c.if-is_long.true c.is_long.ensures c.keep_none.ensures

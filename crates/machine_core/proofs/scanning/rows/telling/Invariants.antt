@@ -11,6 +11,6 @@ abbrev pub invariant-loop-change : goal.invariant-loop-change
 invariant-loop-change l = record {
   told : AreTold l.songs l.told.items l.count;
   items : l.told.items ++ telling (after_batch l.songs l.told.items) (kept_changes l.profile (into_iter_items l.change-iterator))
-      ≡ telling l.songs (kept_changes l.profile l.fn.changes);
+      ≡ telling l.songs (kept_changes l.profile l.fn.changes.items);
   room : vec_len l.told + length (into_iter_items l.change-iterator) ≤ vec_capacity l.told;
 }

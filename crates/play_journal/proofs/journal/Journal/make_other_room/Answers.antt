@@ -91,3 +91,22 @@ pub returns-in-Err-clause-later : goal.returns-in-Err-clause-later
 returns-in-Err-clause-later g c = rw (← c.self.view_is)
     (later_there g.D.Disk.honest g.D.Disk.history g.D.Disk.faults c.self.inside.swapped c.self.inside.here c.self.inside.there
     c.lengthen_shut.new.disk c.lengthen_shut.ensures.later)
+
+-- where there is room, the file is long enough
+pub returns-in-Ok-clause-there : goal.returns-in-Ok-clause-there
+returns-in-Ok-clause-there g c = rw (← c.self.view_is) (λ a b usable there.
+    let j = c.self.inside in
+    let content = g.D.Disk.content in
+    let honest = honest_both g.D.Disk.honest j.swapped j.here j.there a b in
+    let small : length (content j.there) < 2 ^ 63 = g.met.D.Disk.length_fits j.there honest.1 in
+    let other = ap (λ d. length (content d)) (in_use_here j.swapped j.there j.here) in
+    absurd (omega (arith, c.len-len.ensures honest.1, c.saturating_add-wanted.ensures, c.if-len-wanted.false)))
+
+pub returns-in-Err-clause-there : goal.returns-in-Err-clause-there
+returns-in-Err-clause-there g c = rw (← c.self.view_is) (λ a b usable there.
+    let j = c.self.inside in
+    let content = g.D.Disk.content in
+    let honest = honest_both g.D.Disk.honest j.swapped j.here j.there a b in
+    let small : length (content j.there) < 2 ^ 63 = g.met.D.Disk.length_fits j.there honest.1 in
+    let other = ap (λ d. length (content d)) (in_use_here j.swapped j.there j.here) in
+    absurd (omega (arith, c.len-len.ensures honest.1, c.saturating_add-wanted.ensures, c.if-len-wanted.false)))

@@ -112,3 +112,26 @@ returns-in-Err-clause-later g c = rw (← c.self.view_is)
     c.lengthen.new.self
     (later_begun g.D.Disk.honest g.D.Disk.content g.D.Disk.history g.D.Disk.faults c.self.inside.here c.lengthen.new.self _
     c.lengthen.ensures.honest c.lengthen.ensures.counted.later c.in-Err.ensures.in_part))
+
+-- where there is room, the file is long enough
+pub returns-in-Ok-clause-there : goal.returns-in-Ok-clause-there
+returns-in-Ok-clause-there g c = rw (← c.self.view_is) (λ a b usable there.
+    let j = c.self.inside in
+    let content = g.D.Disk.content in
+    let honest = honest_both g.D.Disk.honest j.swapped j.here j.there a b in
+    let kept = c.self.invariant.2 usable honest.0 honest.1 in
+    let end = end_is content g.D.Disk.history j.swapped j.here j.there j.end j.layout j.generation j.base j.count kept in
+    let small : length (content j.here) < 2 ^ 63 = g.met.D.Disk.length_fits j.here honest.0 in
+    let here = ap (λ d. length (content d)) (in_use_here j.swapped j.here j.there) in
+    absurd (omega (arith, c.len-len.ensures honest.0, c.saturating_add.ensures, c.saturating_add-wanted.ensures, c.if-len-wanted.false)))
+
+pub returns-in-Err-clause-there : goal.returns-in-Err-clause-there
+returns-in-Err-clause-there g c = rw (← c.self.view_is) (λ a b usable there.
+    let j = c.self.inside in
+    let content = g.D.Disk.content in
+    let honest = honest_both g.D.Disk.honest j.swapped j.here j.there a b in
+    let kept = c.self.invariant.2 usable honest.0 honest.1 in
+    let end = end_is content g.D.Disk.history j.swapped j.here j.there j.end j.layout j.generation j.base j.count kept in
+    let small : length (content j.here) < 2 ^ 63 = g.met.D.Disk.length_fits j.here honest.0 in
+    let here = ap (λ d. length (content d)) (in_use_here j.swapped j.here j.there) in
+    absurd (omega (arith, c.len-len.ensures honest.0, c.saturating_add.ensures, c.saturating_add-wanted.ensures, c.if-len-wanted.false)))

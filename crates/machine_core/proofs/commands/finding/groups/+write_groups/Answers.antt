@@ -1,10 +1,10 @@
-use Rattle.std.proofs.Common.{◌≡◌, ◌++◌, ◌∷◌, map, ap, ◌∙◌, refl, rules, sym, subst}
+use Rattle.std.proofs.Common.{◌≡◌, ◌++◌, ◌∷◌, map, ap, ◌∙◌, arith, refl, rules, sym, subst}
 use Rattle.std.specs.List.{AllByRecursion, flat_map}
 use Rattle.command_text.specs.AnswerNames.{value_line}
 use Rattle.machine_core.specs.Finding.{group_lines, told_values}
 use Rattle.machine_core.specs.Grouped.{AreRising, Group, entry_group, rows_at}
 use Rattle.machine_core.proofs.Finding.Groups.{lines_in, lines_of_groups, rising_in_each}
-use Rattle.machine_core.proofs.Finding.Writers.{less_remains, none_remains, of_adds, stopped_looking, stopped_within, stopped_writing}
+use Rattle.machine_core.proofs.Finding.Writers.{less_remains, none_remains, of_adds, stopped_long, stopped_within, stopped_writing}
 use Rattle.machine_core.proofs.Finding.Writers.{writes_same, writes_then}
 use Rattle.machine_core.proofs.commands.finding.groups.+write_groups.Goals as goal
 
@@ -51,7 +51,7 @@ loop-text-preserved t c =
     }
 
 pub returns-then-len-gt-LONGEST_ANSWER : goal.returns-then-len-gt-LONGEST_ANSWER
-returns-then-len-gt-LONGEST_ANSWER t c = stopped_looking _ _ _ _ _ c.loop-text.invariant.lines refl
+returns-then-len-gt-LONGEST_ANSWER t c = stopped_long _ _ _ _ _ c.loop-text.invariant.lines (omega arith)
 
 pub returns-in_err-write_value : goal.returns-in_err-write_value
 returns-in_err-write_value t c =

@@ -1,7 +1,7 @@
 use Rattle.std.proofs.Common.{◌≤◌, ◌∙◌, length, arith, sym}
 use Rattle.song_files.specs.Tags.{TagText, texts_of}
 use Rattle.song_db.specs.Query.{with_texts}
-use Rattle.machine_core.proofs.Finding.Values.{text_left, text_taken, texts_taken}
+use Rattle.song_db.proofs.TextSteps.{text_left, text_taken, texts_taken}
 use Rattle.machine_core.proofs.commands.finding.values.take_texts.Goals as goal
 use Rattle.machine_core.proofs.commands.finding.values.take_texts.Goals.{then-eq+in_ok-insert, else-eq}
 
