@@ -307,6 +307,15 @@ fn resuming(config: &ServeConfig) -> Resuming {
     }
 }
 
+/// Counts the waits of the output for a reader, under the wide profile.
+fn counted<'a>(config: &ServeConfig, output: Output<'a>, waits: Calls) -> Output<'a> {
+    let mut output = output;
+    if let Profile::Wide = config.profile() {
+        output.count(waits);
+    }
+    output
+}
+
 /// Listens, and only then empties the output.
 fn begin<'a>(
     rt: &'a HostRuntime,
@@ -327,10 +336,7 @@ fn begin<'a>(
     };
     let (clients, wake) = listen(rt, config, address, clock, calls)?;
     let _cleared = output.clear();
-    let mut output = output;
-    if let Profile::Wide = config.profile() {
-        output.count(waits);
-    }
+    let output = counted(config, output, waits);
     let workers = Workers {
         sources: songs(rt, config, &stop, player)?,
         folder: songs(rt, config, &stop, scan)?,
