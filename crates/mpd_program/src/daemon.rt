@@ -307,6 +307,13 @@ fn resuming(config: &ServeConfig) -> Resuming {
     }
 }
 
+/// Calls that one thread counts, and the loop's watch over them.
+fn watched(rt: &HostRuntime) -> Result<(Calls, CallWatch), AllocError> {
+    let calls = Calls::new(rt.alloc())?;
+    let watch = CallWatch::new(calls.again()?);
+    Ok((calls, watch))
+}
+
 /// Counts the waits of the output for a reader, under the wide profile.
 fn counted<'a>(config: &ServeConfig, output: Output<'a>, waits: Calls) -> Output<'a> {
     let mut output = output;
@@ -326,13 +333,15 @@ fn begin<'a>(
     clock: &'a DaemonClock<'a>,
 ) -> Result<(DaemonClients<'a>, DaemonWorkers<'a>), Exit> {
     tell_descriptors(rt, wanted_descriptors(config.profile()));
-    let (player, scan) = (Calls::new(rt.alloc())?, Calls::new(rt.alloc())?);
-    let (reader, waits) = (Calls::new(rt.alloc())?, Calls::new(rt.alloc())?);
+    let (player, player_watch) = watched(rt)?;
+    let (scan, scan_watch) = watched(rt)?;
+    let (reader, reader_watch) = watched(rt)?;
+    let (waits, output_watch) = watched(rt)?;
     let calls = MusicCalls {
-        player: CallWatch::new(player.again()?),
-        scan: CallWatch::new(scan.again()?),
-        pictures: CallWatch::new(reader.again()?),
-        output: CallWatch::new(waits.again()?),
+        player: player_watch,
+        scan: scan_watch,
+        pictures: reader_watch,
+        output: output_watch,
     };
     let (clients, wake) = listen(rt, config, address, clock, calls)?;
     let _cleared = output.clear();
